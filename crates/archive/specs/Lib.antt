@@ -1,0 +1,10 @@
+pub mod Layout
+pub mod Sections
+pub mod Grammar
+pub mod Reading
+pub mod Records
+pub mod Archives
+pub mod Faults
+pub mod Outcome
+pub mod Laws
+pub mod Example

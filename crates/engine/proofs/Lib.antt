@@ -1,0 +1,9 @@
+pub mod Sounds
+pub mod Fines
+pub mod Judges
+pub mod Apart
+pub mod Logged
+pub mod Switches
+pub mod Asked
+pub mod Replies
+pub mod Names

@@ -1,0 +1,10 @@
+pub mod Bools
+pub mod Trees
+pub mod Joins
+pub mod Sweeps
+pub mod Feeders
+pub mod Totals
+pub mod Numbers
+pub mod Weights
+pub mod Children
+pub mod Checks

@@ -1,0 +1,9 @@
+pub mod Feeder
+pub mod Checked
+pub mod Tree
+pub mod Measure
+pub mod Totals
+pub mod Flows
+pub mod Trials
+pub mod Weighed
+pub mod Laws

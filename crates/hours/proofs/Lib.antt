@@ -1,0 +1,2 @@
+mod Exactly
+pub mod Decided

@@ -1,0 +1,99 @@
+// The program: moves bytes between the archive's file, the standard streams and the console.
+use archive::LoadFault;
+use console::answer_input;
+use console::fault_line;
+use engine::Study;
+use feeder::Section;
+use std::fs;
+use std::io;
+use std::io::BufWriter;
+use std::io::ErrorKind;
+use std::io::Read;
+use std::io::Stdout;
+use std::io::Write;
+use stream::Input;
+use stream::Lines;
+
+const ARCHIVE: &str = "feeder.arc";
+
+// An accepted archive has at most 4 + 1,024 * 52 bytes, and the first byte past them is a fault: more need not be read.
+const LONGEST: u64 = 53_253;
+
+fn main(rt: LibcRuntime) -> io::Result<()> {
+    let archive = read_archive(&rt)?;
+    let mut list = [Section::BLANK; 1024];
+    let mut study = Study::open(&mut list);
+    match study.load(&archive) {
+        Ok(()) => answer_all(&rt, &mut study),
+        Err(fault) => tell(&rt, &fault),
+    }
+}
+
+// A missing file counts as an empty one.
+fn read_archive(rt: &LibcRuntime) -> io::Result<Vec<u8>> {
+    let mut bytes = Vec::new(rt.alloc());
+    match fs::open(rt, ARCHIVE) {
+        Ok(file) => {
+            file.take(LONGEST).read_to_end(&mut bytes)?;
+        }
+        Err(e) => {
+            if e.kind() != ErrorKind::NotFound {
+                return Err(e);
+            }
+        }
+    }
+    Ok(bytes)
+}
+
+fn tell(rt: &LibcRuntime, fault: &LoadFault) -> io::Result<()> {
+    let mut out = [0u8; 64];
+    if let Ok(n) = fault_line(fault, &mut out) {
+        rt.stdout().write_all(out.split_at(n).0)?;
+    }
+    Ok(())
+}
+
+// Answers the lines of standard input. What one read brings is answered and written out before the next.
+fn answer_all(rt: &LibcRuntime, study: &mut Study) -> io::Result<()> {
+    let mut out = BufWriter::new(rt.stdout());
+    let mut lines = Lines::new();
+    for _ in 0..u64::MAX {
+        let mut block = [0u8; 16384];
+        let n = rt.stdin().read(&mut block)?;
+        if n == 0 {
+            break;
+        }
+        answer_block(study, &mut lines, block.split_at(n).0, &mut out)?;
+        out.flush()?;
+    }
+    if let Some(input) = lines.finish() {
+        answer(study, &input, &mut out)?;
+    }
+    out.flush()
+}
+
+// Answers the lines that end in the block; what is left over waits for the next.
+fn answer_block(
+    study: &mut Study,
+    lines: &mut Lines,
+    block: &[u8],
+    out: &mut BufWriter<Stdout>,
+) -> io::Result<()> {
+    let mut from = 0;
+    while from < block.len() {
+        let (next, line) = lines.next(block, from);
+        if let Some(input) = line {
+            answer(study, &input, out)?;
+        }
+        from = next;
+    }
+    Ok(())
+}
+
+fn answer(study: &mut Study, input: &Input, out: &mut BufWriter<Stdout>) -> io::Result<()> {
+    let mut line = [0u8; 64];
+    if let Ok(n) = answer_input(study, input, &mut line) {
+        out.write_all(line.split_at(n).0)?;
+    }
+    Ok(())
+}

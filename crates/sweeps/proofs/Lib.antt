@@ -1,0 +1,4 @@
+pub mod Turns
+pub mod Shares
+pub mod Steps
+pub mod Views
