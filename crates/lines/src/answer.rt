@@ -1,7 +1,7 @@
 use crate::refusal::Refusal;
 use measures::Outage;
 
-// What a line is answered. A fault is what a load found wrong, and where.
+/// What a line is answered. A fault is what a load found wrong, and where.
 #[derive(Clone, Copy)]
 pub enum Answer {
     Done,

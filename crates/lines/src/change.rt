@@ -1,4 +1,4 @@
-// A line that changes the study.
+/// A line that changes the study.
 #[derive(Clone, Copy, Debug, PartialEq, Eq)]
 pub enum Change {
     Fit(u32),

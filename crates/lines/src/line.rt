@@ -5,7 +5,7 @@ use crate::question::Question;
 use crate::question::QuestionDebug;
 use crate::question::QuestionPartialEq;
 
-// One line of the console. Its numbers are not yet held against any study.
+/// One line of the console. Its numbers are not yet held against any study.
 #[derive(Clone, Copy, Debug, PartialEq, Eq)]
 pub enum Line {
     Change(Change),

@@ -1,4 +1,4 @@
-// A line that asks for a figure and changes nothing.
+/// A line that asks for a figure and changes nothing.
 #[derive(Clone, Copy, Debug, PartialEq, Eq)]
 pub enum Question {
     Minutes(u32),

@@ -93,7 +93,7 @@ fn line_of(letter: u8, number: u32) -> Option<Line>
     }
 }
 
-// The line that the bytes are the text of; the line feed that ends it is not among them.
+/// The line that the bytes are the text of; the line feed that ends it is not among them.
 pub fn read_line(text: &[u8]) -> Option<Line>
     ensures reads { λ r. ⌜ Reads (now (text .entry)) r ⌝ }
     ensures one { λ r. ⌜ One-text (now (text .entry)) r ⌝ }

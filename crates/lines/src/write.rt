@@ -93,7 +93,7 @@ fn put_body(out: &mut [u8], answer: &Answer) -> usize
     }
 }
 
-// Writes the answer and a line feed to the front of the output list, and answers how many bytes these are.
+/// Writes the answer and a line feed to the front of the output list, and answers how many bytes these are.
 pub fn write_answer(answer: &Answer, out: &mut [u8]) -> Result<usize, Refusal>
     ensures { λ r. ⌜ Answered (now (answer .entry)) (now (out .entry)) r (now (out .exit)) ⌝ }
 {

@@ -10,7 +10,7 @@ use crate::text::Text;
 // What ends a line.
 const FEED: u8 = b'\n';
 
-// The line that is being read: what has come of it, and whether it has passed the room of a text.
+/// The line that is being read: what has come of it, and whether it has passed the room of a text.
 #[derive(Clone, Copy)]
 pub struct Lines {
     text: Text,
@@ -27,7 +27,7 @@ impl Lines {
         }
     }
 
-    // Feeds one byte, and hands out the line that it ends.
+    /// Feeds one byte, and hands out the line that it ends.
     pub fn push(&mut self, byte: u8) -> Option<Input>
         ensures { λ r. ⌜ Feeds (now (self .entry)) (byte ∷ []) r (now (self .exit)) ⌝ }
     {
@@ -39,8 +39,8 @@ impl Lines {
         }
     }
 
-    // Feeds the bytes from a place on, up to the first line feed or to the last byte, and answers the place after what
-    // it fed and the line that was ended. From a place past the bytes it feeds nothing and answers that place.
+    /// Feeds the bytes from a place on, up to the first line feed or to the last byte, and answers the place after what
+    /// it fed and the line that was ended. From a place past the bytes it feeds nothing and answers that place.
     pub fn next(&mut self, bytes: &[u8], from: usize) -> (usize, Option<Input>)
         ensures fed { λ r. ⌜ Feeds (now (self .entry)) (between from (r .0) (now (bytes .entry))) (r .1) (now (self .exit)) ⌝ }
         ensures goes { λ r. ⌜ Goes from (length (now (bytes .entry))) (r .0) (r .1) ⌝ }
@@ -55,7 +55,7 @@ impl Lines {
         (at, None)
     }
 
-    // At the end of the input: the last line, where it is not empty.
+    /// At the end of the input: the last line, where it is not empty.
     pub fn finish(&self) -> Option<Input>
         ensures ended { λ r. ⌜ ((bs : List ℕ) (ds : List Input) → Fed bs ds (now (self .entry)) → Ended bs (ds ++ listOf r)) ⌝ }
         ensures one { λ r. ⌜ ((bs : List ℕ) (ds : List Input) → Fed bs ds (now (self .entry)) → One-parting bs (ds ++ listOf r)) ⌝ }
