@@ -99,3 +99,9 @@ line-one text before o reads one h a a′ p q =
 pub answer-fits : (a : Answer) (before : List ℕ) (r : Result ℕ Refusal) (after : List ℕ) → Answered a before r after → Cases r (λ n. n ≤ length before) (λ _. length before < 64)
 answer-fits a before (Ok n) after h = let s = h .small in let m = h .room in omega (arith, s, m)
 answer-fits a before (Err e) after h = h .under
+
+-- the feeder after a line whose answer could be written
+pub step-moved : (o : Option Line) (f g : Feeder) (before after : List ℕ) (r : Result ℕ Refusal) → 64 ≤ length before → Step f (entryOf o (length before) r after) g → g ≡ moved o f
+step-moved None f g before after r l h = h
+step-moved (Some (line.Question q)) f g before after r l h = h
+step-moved (Some (line.Change x)) f g before after r l h = h .1 ∙ ap (made f x) (ap (λ (b : Bool). first b Short (against (size f) (at f (named x)) x)) (le-ltb _ _ l))

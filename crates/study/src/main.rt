@@ -1,18 +1,14 @@
-// The program: moves bytes between the archive's file, the standard streams and the console.
+// The program: moves bytes between the archive's file, the standard streams and a session.
 use archive::LoadFault;
-use console::answer_input;
 use console::fault_line;
 use engine::Study;
 use feeder::Section;
+use session::Session;
 use std::fs;
 use std::io;
-use std::io::BufWriter;
 use std::io::ErrorKind;
 use std::io::Read;
-use std::io::Stdout;
 use std::io::Write;
-use stream::Input;
-use stream::Lines;
 
 const ARCHIVE: &str = "feeder.arc";
 
@@ -47,53 +43,43 @@ fn read_archive(rt: &LibcRuntime) -> io::Result<Vec<u8>> {
 
 fn tell(rt: &LibcRuntime, fault: &LoadFault) -> io::Result<()> {
     let mut out = [0u8; 64];
-    if let Ok(n) = fault_line(fault, &mut out) {
-        rt.stdout().write_all(out.split_at(n).0)?;
+    match fault_line(fault, &mut out) {
+        Ok(n) => rt.stdout().write_all(out.split_at(n).0),
+        Err(_) => Ok(()),
     }
-    Ok(())
 }
 
 // Answers the lines of standard input. What one read brings is answered and written out before the next.
 fn answer_all(rt: &LibcRuntime, study: &mut Study) -> io::Result<()> {
-    let mut out = BufWriter::new(rt.stdout());
-    let mut lines = Lines::new();
+    let mut session = Session::new();
     for _ in 0..u64::MAX {
         let mut block = [0u8; 16384];
         let n = rt.stdin().read(&mut block)?;
         if n == 0 {
             break;
         }
-        answer_block(study, &mut lines, block.split_at(n).0, &mut out)?;
-        out.flush()?;
+        answer_block(rt, study, &mut session, block.split_at(n).0)?;
     }
-    if let Some(input) = lines.finish() {
-        answer(study, &input, &mut out)?;
+    let mut out = [0u8; 64];
+    match session.finish(study, &mut out) {
+        Ok(n) => rt.stdout().write_all(out.split_at(n).0),
+        Err(_) => Ok(()),
     }
-    out.flush()
 }
 
 // Answers the lines that end in the block; what is left over waits for the next.
 fn answer_block(
+    rt: &LibcRuntime,
     study: &mut Study,
-    lines: &mut Lines,
+    session: &mut Session,
     block: &[u8],
-    out: &mut BufWriter<Stdout>,
 ) -> io::Result<()> {
     let mut from = 0;
     while from < block.len() {
-        let (next, line) = lines.next(block, from);
-        if let Some(input) = line {
-            answer(study, &input, out)?;
-        }
+        let mut out = [0u8; 16384];
+        let (next, n) = session.answer(study, block, from, &mut out);
+        rt.stdout().write_all(out.split_at(n).0)?;
         from = next;
-    }
-    Ok(())
-}
-
-fn answer(study: &mut Study, input: &Input, out: &mut BufWriter<Stdout>) -> io::Result<()> {
-    let mut line = [0u8; 64];
-    if let Ok(n) = answer_input(study, input, &mut line) {
-        out.write_all(line.split_at(n).0)?;
     }
     Ok(())
 }
