@@ -1,0 +1,3 @@
+mod Tests
+mod Places
+pub mod Whole
