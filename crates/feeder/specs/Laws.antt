@@ -40,10 +40,6 @@ abbrev pub Children-law : Type 0 → Type 0
 Children-law V = (μ : Meaning V) → Lawful μ → (f : Feeder) → Sound f → (j : ℕ) → j < size f →
     held μ f j ≡ μ .join (extraPart μ f j) (over μ f (λ c. when μ f (openChild f j c) (held μ f c)))
 
--- A fitted feeder is sound.
-abbrev pub Fitted-law : Type 0
-Fitted-law = (f : Feeder) → Sound f → (j : ℕ) → 0 < j → j < size f → Sound (fitted f j)
-
 -- The upward sweep, from section 0 on: each total from the parent's.
 pub record Upward {V : Type 0} (μ : Meaning V) (f : Feeder) : Type 0 where
   pub root : total μ f 0 ≡ μ .join (farTotal μ f) (held μ f 0)
