@@ -15,7 +15,7 @@ use std::io::Write;
 const ROOM: usize = 64;
 
 // Puts the lines of the file NAME.txt. A line after "! " is put by its library call, any other by the console.
-pub fn play(
+pub(crate) fn play(
     rt: &LibcRuntime,
     name: &str,
     study: &mut Study,
@@ -96,7 +96,7 @@ fn answer(rt: &LibcRuntime, study: &mut Study, text: &[u8]) -> Result<(), AnyErr
 }
 
 // The same questions to either site.
-pub fn ask(rt: &LibcRuntime, name: &str, study: &mut Study) -> Result<(), AnyError> {
+pub(crate) fn ask(rt: &LibcRuntime, name: &str, study: &mut Study) -> Result<(), AnyError> {
     let questions: [&[u8]; 8] = [b"X", b"D 0", b"D 1", b"D 2", b"D 3", b"L 2", b"G 3", b"G 2"];
     for text in questions {
         print!(rt, "{name} answers ")?;
