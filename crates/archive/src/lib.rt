@@ -3,6 +3,7 @@
 //! Faults are layered: a [`BytesFault`] says where bytes end too soon, a
 //! [`RecordFault`] what is wrong with a record, and a [`LoadFault`] what is
 //! wrong with the archive. Each carries the fault of the layer below whole.
+#![tactic(auto)]
 
 mod bytes;
 mod fault;

@@ -1,4 +1,6 @@
 // The console: a line is turned into the answer's bytes, and a load fault into its line.
+#![tactic(auto)]
+
 mod answer;
 mod fault;
 mod input;

@@ -1,4 +1,6 @@
 // A study over a caller's section list: loading, changes, questions and trials.
+#![tactic(auto)]
+
 mod journal;
 mod study;
 

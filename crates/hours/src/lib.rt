@@ -1,4 +1,5 @@
 //! Repair hours, as a binary64 number, turned into minutes without rounding.
+#![tactic(auto)]
 
 ghost use Rattle.std.specs.Prelude.{◌≡◌, ℕ, ◌*◌, MatchOption};
 ghost use Rattle.hours.specs.Quarters.{Quarters};

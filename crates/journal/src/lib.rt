@@ -1,4 +1,6 @@
 // Recorded changes of two sites, compared section by section.
+#![tactic(auto)]
+
 mod equal;
 mod walk;
 

@@ -1,6 +1,6 @@
 -- One piece written after another.
 use Rattle.std.proofs.Common.{◌≡◌, ℕ, ◌+◌, ◌-◌, ◌*◌, ◌/◌, ◌%◌, ◌^◌, ◌<◌, ◌≤◌, List, [], ◌∷◌, ◌++◌, length, get_or, take, drop, set, decimal, sym, refl, ap, ◌∙◌, subst, arith}
-use Rattle.std.specs.List.{AllByRecursion as All}
+use Rattle.std.specs.List.{AllByRecursion}
 use Rattle.std.proofs.lemmas.List.{append_assoc, append-nil, take_more, length-append, drop-drop, take-append-drop, take_more_set, drop-set-lt}
 use Rattle.std.proofs.lemmas.Fmt.{decimal_step, length-decimal-le}
 use Rattle.lines.specs.Lines.{fields}
@@ -49,6 +49,6 @@ room ns i h =
     let d : fields ns ≡ fields (take (i + 1) ns) ++ fields (drop (i + 1) ns) = ap fields (sym (take-append-drop (i + 1) ns)) ∙ fields_append (take (i + 1) ns) (drop (i + 1) ns) in
     omega (arith, ap length d, length-append (fields (take (i + 1) ns)) (fields (drop (i + 1) ns)), ap length (fields_more ns i h), length-append (fields (take i ns) ++ (32 ∷ [])) (decimal (get_or ns i 0)), length-append (fields (take i ns)) (32 ∷ []))
 
-pub length_fields : (ns : List ℕ) → All (λ n. n < 2 ^ 64) ns → length (fields ns) ≤ 21 * length ns
+pub length_fields : (ns : List ℕ) → AllByRecursion (λ n. n < 2 ^ 64) ns → length (fields ns) ≤ 21 * length ns
 length_fields [] h = omega arith
 length_fields (n ∷ ns) (l, h) = omega (arith, length-append (decimal n) (fields ns), length_decimal n l, length_fields ns h)

@@ -1,6 +1,6 @@
 -- The bytes of a line: its letter, then each of its numbers after one space.
 use Rattle.std.specs.Prelude.{◌≡◌, ℕ, ◌^◌, ◌<◌, List, [], ◌∷◌, ◌++◌, length, Some, decimal, Option, MatchOption}
-use Rattle.std.specs.List.{AllByRecursion as All}
+use Rattle.std.specs.List.{AllByRecursion}
 use Rattle.lines.specs.declared.change.Change.{Change}
 use Rattle.lines.specs.declared.question.Question.{Question}
 use Rattle.lines.specs.declared.line.Line.{Line}
@@ -38,7 +38,7 @@ text l = letter_of l ∷ fields (numbers l)
 
 -- numbers of 32 bits
 abbrev pub Small : List ℕ → Type 0
-Small ns = All (λ n. n < 2 ^ 32) ns
+Small ns = AllByRecursion (λ n. n < 2 ^ 32) ns
 
 -- bs is the text of n numbers, ns
 abbrev pub Lists : ℕ → List ℕ → List ℕ → Type 0

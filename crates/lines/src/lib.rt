@@ -1,4 +1,6 @@
 // What a console line asks, and how its answer is written.
+#![tactic(auto)]
+
 mod answer;
 mod change;
 mod line;

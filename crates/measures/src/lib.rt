@@ -1,4 +1,6 @@
 // What a study measures: the interface of a measure, and Minutes, Count and Longest behind it.
+#![tactic(auto)]
+
 mod capped;
 mod count;
 mod longest;

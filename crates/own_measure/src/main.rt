@@ -1,4 +1,6 @@
 // A measure of a caller's own, in every call that takes a measure.
+#![tactic(auto)]
+
 mod prolonged;
 
 use engine::Study;

@@ -1,6 +1,6 @@
 -- A whole session: from the bytes that came in to the bytes that went out. Assumes nothing.
 use Rattle.std.specs.Prelude.{◌≡◌, ℕ, ◌+◌, ◌<◌, ◌≤◌, List, [], ◌∷◌, ◌++◌, length, take, drop, None, Option}
-use Rattle.std.specs.List.{AllByRecursion as All}
+use Rattle.std.specs.List.{AllByRecursion}
 use Rattle.feeder.specs.Feeder.{Feeder}
 use Rattle.lines.specs.declared.line.Line.{Line}
 use Rattle.lines.specs.Answers.{answer_text}
@@ -22,7 +22,7 @@ pub record Conversation (f : Feeder) (bs out : List ℕ) (g : Feeder) : Type 0 w
   pub lines : List (List ℕ)
   pub last : List ℕ
   pub whole : bs ≡ stream lines last
-  pub plain : All Plain lines
+  pub plain : AllByRecursion Plain lines
   pub plain_last : Plain last
   pub talk : Talk f (lines ++ last_line last) out g
 

@@ -1,5 +1,7 @@
 // Two sites make the same changes, section by section in the same order and otherwise in orders of their own, some by library calls
 // and some by console lines, with questions and refused lines in between. Both end on one feeder and answer alike.
+#![tactic(auto)]
+
 mod site;
 
 use engine::{Put, Study};

@@ -1,6 +1,6 @@
 -- One byte more of a stream.
 use Rattle.std.proofs.Common.{◌≡◌, ℕ, ◌+◌, ◌<◌, ◌≤◌, Bool, true, false, List, [], ◌∷◌, ◌++◌, length, get_or, sym, refl, ap, ◌∙◌, subst, arith}
-use Rattle.std.specs.List.{between, AllByRecursion as All}
+use Rattle.std.specs.List.{between, AllByRecursion}
 use Rattle.std.proofs.lemmas.List.{append_assoc, append-nil, length-append, length-take}
 use Rattle.std.proofs.lemmas.List.Edits.{between_more}
 use Rattle.std.proofs.ByRecursion.{All-push}
@@ -115,7 +115,7 @@ cut (x ∷ l) (y ∷ m) r t a b e =
     ((cc), h.1)
 
 -- a stream is parted in one way
-parted : (ls ms : List (List ℕ)) (p q : List ℕ) → All Plain ls → All Plain ms → Plain p → Plain q → stream ls p ≡ stream ms q → (ls ≡ ms) × (p ≡ q)
+parted : (ls ms : List (List ℕ)) (p q : List ℕ) → AllByRecursion Plain ls → AllByRecursion Plain ms → Plain p → Plain q → stream ls p ≡ stream ms q → (ls ≡ ms) × (p ≡ q)
 parted [] [] p q pl pm pp pq e = (refl, e)
 parted [] (m ∷ ms) p q pl pm pp pq e = absurd (never m (stream ms q) p pp (sym e))
 parted (l ∷ ls) [] p q pl pm pp pq e = absurd (never l (stream ls p) q pq e)

@@ -1,6 +1,6 @@
 -- A stream of bytes as lines that end in line feeds, and a last one that does not.
 use Rattle.std.specs.Prelude.{◌≡◌, ℕ, ◌<◌, ◌≤◌, Bool, true, false, List, [], ◌∷◌, ◌++◌, length, take, None, Option, ◌≢◌}
-use Rattle.std.specs.List.{AllByRecursion as All}
+use Rattle.std.specs.List.{AllByRecursion}
 use Rattle.std.specs.Option.{option_to_list}
 use Rattle.stream.specs.declared.text.Text.{Text}
 use Rattle.stream.specs.declared.input.Input.{Input}
@@ -18,7 +18,7 @@ Added was b false after = (length was ≡ 64) × (after ≡ was)
 
 -- no line feed
 abbrev pub Plain : List ℕ → Type 0
-Plain l = All (λ b. b ≢ 10) l
+Plain l = AllByRecursion (λ b. b ≢ 10) l
 
 -- the lines ls, each with its line feed, and then the bytes last
 abbrev pub stream : List (List ℕ) → List ℕ → List ℕ
@@ -49,7 +49,7 @@ pub record Fed (bs : List ℕ) (ds : List Input) (s : Lines) : Type 0 where
   pub lines : List (List ℕ)
   pub part : List ℕ
   pub whole : bs ≡ stream lines part
-  pub plain : All Plain lines
+  pub plain : AllByRecursion Plain lines
   pub plain_part : Plain part
   pub gave : DeliversAll lines ds
   pub kept : Holds s part
@@ -68,13 +68,13 @@ pub record Ended (bs : List ℕ) (ds : List Input) : Type 0 where
   pub lines : List (List ℕ)
   pub last : List ℕ
   pub whole : bs ≡ stream lines last
-  pub plain : All Plain lines
+  pub plain : AllByRecursion Plain lines
   pub plain_last : Plain last
   pub gave : DeliversAll (lines ++ last_line last) ds
 
 -- a stream is parted into lines in one way: however bs is parted, these lines are what was handed out
 abbrev pub OneParting : List ℕ → List Input → Type 0
-OneParting bs ds = (ls : List (List ℕ)) (last : List ℕ) → bs ≡ stream ls last → All Plain ls → Plain last → DeliversAll (ls ++ last_line last) ds
+OneParting bs ds = (ls : List (List ℕ)) (last : List ℕ) → bs ≡ stream ls last → AllByRecursion Plain ls → Plain last → DeliversAll (ls ++ last_line last) ds
 
 -- From the place from, among len bytes, feeding went to the place end, and line is what it handed out.
 pub record Goes (from len end : ℕ) (line : Option Input) : Type 0 where

@@ -1,4 +1,6 @@
 // Bytes as they come, handed out as lines.
+#![tactic(auto)]
+
 mod input;
 mod lines;
 mod text;

@@ -1,4 +1,6 @@
 // The program: moves bytes between the archive's file, the standard streams and a session.
+#![tactic(auto)]
+
 use archive::LoadFault;
 use console::fault_line;
 use engine::Study;

@@ -39,7 +39,7 @@ module _ (f : Feeder) (S : Sound f) where
   below_here k j e = sym (subst (λ (x : ℕ). below (up f) k x ≡ true) e (below_self (up f) (up_falls f S) k))
 
   pub below_above : (k p j : ℕ) → 0 < k → k ≢ j → up f k ≡ p → below (up f) p j ≡ below (up f) k j
-  below_above k p j pos ne e = sym (T.Below-up k pos j ∙ ap (λ b. b || below (up f) (up f k) j) (ne_eqb k j ne) ∙ ap (λ x. below (up f) x j) e)
+  below_above k p j pos ne e = sym (T.below_up k pos j ∙ ap (λ b. b || below (up f) (up f k) j) (ne_eqb k j ne) ∙ ap (λ x. below (up f) x j) e)
 
   pub below_none : (k j : ℕ) → k ≡ 0 → k ≢ j → false ≡ below (up f) k j
   below_none k j e ne = sym (subst (λ (x : ℕ). x ≢ j → below (up f) x j ≡ false) (sym e) (λ n. T.below_root j ∙ ne_eqb 0 j n) ne)

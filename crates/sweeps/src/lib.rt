@@ -1,4 +1,6 @@
 // The sweeps over a feeder's sections, for every measure: all totals cost one pass down and one pass up.
+#![tactic(auto)]
+
 mod asked;
 mod by;
 mod down;

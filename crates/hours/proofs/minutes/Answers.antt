@@ -11,21 +11,21 @@ holds b e = subst T (sym e) tt
 fails : (b : Bool) → b ≡ false → T b → ⊥
 fails b e t = subst T e t
 
-found : (c : goal.Then-count-quarters) → Quarters c.args.hours c.saturating-f64-to-u16-count.result
+found : (c : goal.Then-count-quarters) → Quarters c.args.hours c.saturating_f64_to_u16-count.result
 found c =
-    let small : c.saturating-f64-to-u16-count.result ≤ 2 ^ 53 = omega arith in
-    accepted c.args.hours c.saturating-f64-to-u16-count.result (holds _ c.well-formed.0.1) small (holds _ c.if-quarters.true) (holds _ c.if-quarters-2.true) (holds _ c.if-count-quarters.true)
+    let small : c.saturating_f64_to_u16-count.result ≤ 2 ^ 53 = omega arith in
+    accepted c.args.hours c.saturating_f64_to_u16-count.result (holds _ c.well_formed.0.1) small (holds _ c.if-quarters.true) (holds _ c.if-quarters-2.true) (holds _ c.if-count-quarters.true)
 
-pub overflow-mul-result : goal.overflow-mul-result
-overflow-mul-result c = let h = found c in omega (arith, h.1)
+pub overflow_mul-result : goal.overflow_mul-result
+overflow_mul-result c = let h = found c in omega (arith, h.1)
 
 pub returns-then-count-quarters : goal.returns-then-count-quarters
-returns-then-count-quarters c = (c.saturating-f64-to-u16-count.result, found c, mul_comm c.saturating-f64-to-u16-count.result 15)
+returns-then-count-quarters c = (c.saturating_f64_to_u16-count.result, found c, mul_comm c.saturating_f64_to_u16-count.result 15)
 
 pub returns-else-count-quarters : goal.returns-else-count-quarters
 returns-else-count-quarters c q h =
     let p = passing c.args.hours q h in
-    let e : c.saturating-f64-to-u16-count.result ≡ q = c.saturating-f64-to-u16-count.ensures ∙ p.2 in
+    let e : c.saturating_f64_to_u16-count.result ≡ q = c.saturating_f64_to_u16-count.ensures ∙ p.2 in
     fails _ c.if-count-quarters.false (subst (λ (n : ℕ). T (eq (of_int binary64 (pos n)) (mul binary64 c.args.hours four))) (sym e) p.3)
 
 pub returns-else-quarters : goal.returns-else-quarters

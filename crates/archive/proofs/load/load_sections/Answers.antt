@@ -8,30 +8,30 @@ use Rattle.archive.proofs.ArchiveOne.{one_outcome}
 use Rattle.archive.proofs.Fine.{keeps_sound}
 use Rattle.archive.proofs.load.load_sections.Goals as goal
 
-pub returns-in-err-count : goal.returns-in-err-count
-returns-in-err-count c = record {
+pub returns-in_err-count : goal.returns-in_err-count
+returns-in_err-count c = record {
   outcome = search rules;
   one = one_outcome c.args.bytes.now (length c.args.list.now);
 }
 
-pub returns-in-err-end : goal.returns-in-err-end
-returns-in-err-end c =
-    let p = err_from_is_err_and c.from-residual-in-err-end.result c.from-residual-in-err-end.ensures.1 in
-    let k = c.in-ok-count.ensures in
-    let h = c.in-err-end.ensures in
+pub returns-in_err-end : goal.returns-in_err-end
+returns-in_err-end c =
+    let p = err_from_is_err_and c.from_residual-in_err-end.result c.from_residual-in_err-end.ensures.1 in
+    let k = c.in_ok-count.ensures in
+    let h = c.in_err-end.ensures in
     let l : length h.0 < be2 c.args.bytes.now 0 = omega (arith, h.2, k.0) in
     record {
-      outcome = rw (p.1, p.2) (record { fails = faulty_record k.2 c.in-err-end.field-0.0 (h.0, h.1, l, h.3, h.4, h.5) refl; list = refl });
+      outcome = rw (p.1, p.2) (record { fails = faulty_record k.2 c.in_err-end.field-0.0 (h.0, h.1, l, h.3, h.4, h.5) refl; list = refl });
       one = one_outcome c.args.bytes.now (length c.args.list.now);
     }
 
 pub returns-then-end-bytes : goal.returns-then-end-bytes
 returns-then-end-bytes c =
-    let k = c.in-ok-count.ensures in
-    let l : length c.read-sections.new.list ≡ c.in-ok-count.count = omega arith in
+    let k = c.in_ok-count.ensures in
+    let l : length c.read_sections.new.list ≡ c.in_ok-count.count = omega arith in
     record {
       outcome = record {
-        fails = after k.2 c.read-sections.new.list c.in-ok-end.end (l ∙ k.0) c.in-ok-end.ensures c.if-end-bytes.true refl;
+        fails = after k.2 c.read_sections.new.list c.in_ok-end.end (l ∙ k.0) c.in_ok-end.ensures c.if-end-bytes.true refl;
         list = refl;
       };
       one = one_outcome c.args.bytes.now (length c.args.list.now);
@@ -40,16 +40,16 @@ returns-then-end-bytes c =
 pub returns : goal.returns
 returns c =
     let s = c.args.bytes.now in
-    let xs = c.read-sections.new.list in
-    let n = c.in-ok-count.count in
+    let xs = c.read_sections.new.list in
+    let n = c.in_ok-count.count in
     let l : length xs ≡ n = omega arith in
-    let k = c.in-ok-count.ensures in
-    let r = c.in-ok-end.ensures in
+    let k = c.in_ok-count.ensures in
+    let r = c.in_ok-end.ensures in
     let t : take n c.copy.new.list ≡ xs = ap (take n) c.copy.ensures ∙ take_at xs _ n l in
-    let e : c.in-ok-end.end ≤ length s = records_within s 0 4 xs c.in-ok-end.end r k.2.1.1.0 in
-    let f : c.in-ok-end.end ≡ length s = omega arith in
+    let e : c.in_ok-end.end ≤ length s = records_within s 0 4 xs c.in_ok-end.end r k.2.1.1.0 in
+    let f : c.in_ok-end.end ≡ length s = omega arith in
     let m : length (take n c.copy.new.list) ≡ n = ap length t ∙ l in
-    let k' = kept s (length c.args.list.now) (record { sections = take n c.copy.new.list; switching = c.in-ok-count.switching }) (record {
+    let k' = kept s (length c.args.list.now) (record { sections = take n c.copy.new.list; switching = c.in_ok-count.switching }) (record {
       header = k.2;
       count = m ∙ k.0;
       time = k.1;

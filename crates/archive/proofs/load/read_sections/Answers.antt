@@ -7,15 +7,15 @@ use Rattle.feeder.specs.declared.section.Section.{Section}
 use Rattle.archive.proofs.Laying.{records_push}
 use Rattle.archive.proofs.load.read_sections.Goals as goal
 
-pub returns-in-err-section : goal.returns-in-err-section
-returns-in-err-section c =
-    let p = err_from_is_err_and c.from-residual.result c.from-residual.ensures.1 in
+pub returns-in_err-section : goal.returns-in_err-section
+returns-in_err-section c =
+    let p = err_from_is_err_and c.from_residual.result c.from_residual.ensures.1 in
     let i = c.loop-i.i in
     let xs = take i c.loop-i.list in
     let l : length xs ≡ i = length-take-le i c.loop-i.list (omega arith) in
-    let h = c.in-err-section.ensures in
+    let h = c.in_err-section.ensures in
     rw (p.1, p.2)
-    (xs, c.loop-i.at, omega arith, c.loop-i.invariant, h.0 ∙ sym l, subst (λ (y : ℕ). Faulty c.args.bytes.now c.loop-i.at y c.in-err-section.field-0.0.fault) (sym l) h.1)
+    (xs, c.loop-i.at, omega arith, c.loop-i.invariant, h.0 ∙ sym l, subst (λ (y : ℕ). Faulty c.args.bytes.now c.loop-i.at y c.in_err-section.field-0.0.fault) (sym l) h.1)
 
 pub loop-i-preserved : goal.loop-i-preserved
 loop-i-preserved c =
@@ -23,9 +23,9 @@ loop-i-preserved c =
     let xs = take i c.loop-i.list in
     let w : i < length c.loop-i.list = omega arith in
     let l : length xs ≡ i = length-take-le i c.loop-i.list (omega arith) in
-    let h = c.in-ok-section.ensures in
-    subst (λ (ys : List Section). Records c.args.bytes.now 0 4 ys c.in-ok-section.next) (sym (take_more_set c.loop-i.list i c.in-ok-section.section w))
-    (records_push c.args.bytes.now 0 4 xs c.loop-i.at i h.0 c.in-ok-section.next c.in-ok-section.section (omega arith) c.loop-i.invariant h.1 h.2)
+    let h = c.in_ok-section.ensures in
+    subst (λ (ys : List Section). Records c.args.bytes.now 0 4 ys c.in_ok-section.next) (sym (take_more_set c.loop-i.list i c.in_ok-section.section w))
+    (records_push c.args.bytes.now 0 4 xs c.loop-i.at i h.0 c.in_ok-section.next c.in_ok-section.section (omega arith) c.loop-i.invariant h.1 h.2)
 
 pub returns : goal.returns
 returns c =

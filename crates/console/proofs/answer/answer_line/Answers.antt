@@ -17,8 +17,8 @@ returns-then-out-lt-ROOM c =
     let f : Feeder = feeder_of c.args.study.now in
     let text = c.args.text.now in
     let before = c.args.out.now in
-    let o = c.read-line-line.result in
-    let read = c.read-line-line.ensures in
+    let o = c.read_line-line.result in
+    let read = c.read_line-line.ensures in
     let written : Answered (said o f) before (Err Short) before = record { under = c.if-out-lt-ROOM.true; short = refl; kept = refl } in
     let step = short_step o (length before) f before c.if-out-lt-ROOM.true in
     record {
@@ -34,11 +34,11 @@ returns c =
     let g : Feeder = feeder_of c.put-answer.new.study in
     let text = c.args.text.now in
     let before = c.args.out.now in
-    let o = c.read-line-line.result in
-    let read = c.read-line-line.ensures in
-    let after = c.write-answer.new.out in
-    let r = c.write-answer.result in
-    let written : Answered (said o f) before r after = subst (λ (a : Answer). Answered a before r after) c.put-answer.ensures.answer c.write-answer.ensures in
+    let o = c.read_line-line.result in
+    let read = c.read_line-line.ensures in
+    let after = c.write_answer.new.out in
+    let r = c.write_answer.result in
+    let written : Answered (said o f) before r after = subst (λ (a : Answer). Answered a before r after) c.put-answer.ensures.answer c.write_answer.ensures in
     let step = long_step o f g before after r c.if-out-lt-ROOM.false written c.put-answer.ensures.feeder in
     record {
       lined = record { line = o; reads = read.reads; answer = written; step = step; logged = extends _ f g step };

@@ -15,13 +15,13 @@ use Rattle.console.proofs.input.answer_input.Goals as goal
 pub returns-in-Line : goal.returns-in-Line
 returns-in-Line c =
     let f : Feeder = feeder_of c.args.study.now in
-    let g : Feeder = feeder_of c.answer-line.new.study in
+    let g : Feeder = feeder_of c.answer_line.new.study in
     let before = c.args.out.now in
-    let after = c.answer-line.new.out in
-    let r = c.answer-line.result in
-    let said = c.answer-line.ensures in
-    let is : (line : List ℕ) → Delivers line c.args.input.now → c.as-slice.result.now ≡ line = λ line d.
-    let d' = subst (λ (i : Input). Delivers line i) c.in-Line.is d in c.as-slice.ensures ∙ d'.1 in
+    let after = c.answer_line.new.out in
+    let r = c.answer_line.result in
+    let said = c.answer_line.ensures in
+    let is : (line : List ℕ) → Delivers line c.args.input.now → c.as_slice.result.now ≡ line = λ line d.
+    let d' = subst (λ (i : Input). Delivers line i) c.in-Line.is d in c.as_slice.ensures ∙ d'.1 in
     record {
       lined = λ line d. subst (λ (x : List ℕ). Lined x before f r after g) (is line d) said.lined;
       alike = λ line d. subst (λ (x : List ℕ). Alike (LineAnswer x before) f (r, after)) (is line d) said.alike;
@@ -33,9 +33,9 @@ pub returns-in-TooLong : goal.returns-in-TooLong
 returns-in-TooLong c =
     let f : Feeder = feeder_of c.args.study.now in
     let before = c.args.out.now in
-    let after = c.write-answer.new.out in
-    let r = c.write-answer.result in
-    let written = c.write-answer.ensures in
+    let after = c.write_answer.new.out in
+    let r = c.write_answer.result in
+    let written = c.write_answer.ensures in
     let none : (line : List ℕ) → Delivers line c.args.input.now → Reads line None = λ line d.
     let d' = subst (λ (i : Input). Delivers line i) c.in-TooLong.is d in too_long line d' in
     record {

@@ -8,38 +8,38 @@ use Rattle.lines.proofs.Fields.{cases_both, fields_same}
 use Rattle.lines.proofs.Forms.{five, one, parts, says, split, as_one, as_five, one_text}
 use Rattle.lines.proofs.read.read_line.Goals as goal
 
-pub returns-in-err-section : goal.returns-in-err-section
-returns-in-err-section c =
+pub returns-in_err-section-in-83 : goal.returns-in_err-section-in-83
+returns-in_err-section-in-83 c =
     let h : Reads c.args.text.now None = λ l s.
     let p = parts _ _ _ l (split c.args.text.now (omega arith)) s in
-    c.in-err-section.ensures _ (five l (p.0 ∙ c.in-83.is), s.0, p.1) in
-    rw c.from-residual-in-err-section.ensures (record { reads = h; one = one_text _ None h })
+    c.in_err-section-in-83.ensures _ (five l (p.0 ∙ c.in-83.is), s.0, p.1) in
+    rw c.from_residual-in_err-section-in-83.ensures (record { reads = h; one = one_text _ None h })
 
-pub returns-in-err-number : goal.returns-in-err-number
-returns-in-err-number c =
+pub returns-in_err-number-in_default : goal.returns-in_err-number-in_default
+returns-in_err-number-in_default c =
     let h : Reads c.args.text.now None = λ l s.
     let p = parts _ _ _ l (split c.args.text.now (omega arith)) s in
-    c.in-err-number.ensures _ (one l (λ x. omega arith) (λ x. omega arith), s.0, p.1) in
-    rw c.from-residual-in-err-number.ensures (record { reads = h; one = one_text _ None h })
+    c.in_err-number-in_default.ensures _ (one l (λ x. omega arith) (λ x. omega arith), s.0, p.1) in
+    rw c.from_residual-in_err-number-in_default.ensures (record { reads = h; one = one_text _ None h })
 
-pub returns-in-ok-spaced : goal.returns-in-ok-spaced
-returns-in-ok-spaced c =
-    let h = c.in-ok-spaced.ensures in
+pub returns-in_ok-spaced-in-88 : goal.returns-in_ok-spaced-in-88
+returns-in_ok-spaced-in-88 c =
+    let h = c.in_ok-spaced-in-88.ensures in
     let s = says _ _ _ _ (line.Question Indices) (split c.args.text.now (omega arith)) h.1 h.2 (sym (nil_from_length _ h.0)) (sym c.in-88.is) in
     record { reads = s; one = one_text _ (Some _) s }
 
-pub returns-in-ok-section : goal.returns-in-ok-section
-returns-in-ok-section c =
-    let h = c.in-ok-section.ensures in
+pub returns-in_ok-section-in-83 : goal.returns-in_ok-section-in-83
+returns-in_ok-section-in-83 c =
+    let h = c.in_ok-section-in-83.ensures in
     let s = says _ _ _ _ (line.Change (Set _ _ _ _ _)) (split c.args.text.now (omega arith)) h.1 h.2 (as_five _ h.0) (sym c.in-83.is) in
     record { reads = s; one = one_text _ (Some _) s }
 
-pub returns-in-ok-number : goal.returns-in-ok-number
-returns-in-ok-number c =
-    let h = c.in-ok-number.ensures in
+pub returns-in_ok-number-in_default : goal.returns-in_ok-number-in_default
+returns-in_ok-number-in_default c =
+    let h = c.in_ok-number-in_default.ensures in
     let e = split c.args.text.now (omega arith) in
     let o = as_one _ h.0 in
-    let r : Reads c.args.text.now c.line-of.result = cases_both c.line-of.result c.line-of.ensures
+    let r : Reads c.args.text.now c.line_of.result = cases_both c.line_of.result c.line_of.ensures
     (λ none l s. let p = parts _ _ _ l e s in none l (fields_same _ _ s.0 h.1 (sym p.1 ∙ h.2) ∙ o) p.0)
     (λ l s. says _ _ _ _ l e h.1 h.2 (s.0 ∙ sym o) s.1) in
     record { reads = r; one = one_text _ _ r }

@@ -9,11 +9,11 @@ put-requires t c = omega (arith, decimal_nonempty c.args.n (omega arith))
 pub returns-then-n-lt10 : goal.returns-then-n-lt10
 returns-then-n-lt10 t c = wrote_as _ _ _ _ _ _ (sym (decimal_digit c.args.n (omega arith))) c.put.ensures
 
-pub put-number-next-requires : goal.put-number-next-requires
-put-number-next-requires t c = (search rules, omega (arith, length_step c.args.n (omega arith) (omega arith)))
+pub put_number-next-requires : goal.put_number-next-requires
+put_number-next-requires t c = (search rules, omega (arith, length_step c.args.n (omega arith) (omega arith)))
 
 pub put-requires-2 : goal.put-requires-2
-put-requires-2 t c = omega (arith, c.put-number-next.ensures.place, length_step c.args.n (omega arith) (omega arith))
+put-requires-2 t c = omega (arith, c.put_number-next.ensures.place, length_step c.args.n (omega arith) (omega arith))
 
 pub returns : goal.returns
-returns t c = wrote_as _ _ _ _ _ _ (sym (decimal_step c.args.n (omega arith) (omega arith))) (then _ _ _ _ _ _ _ _ c.put-number-next.ensures c.put-2.ensures)
+returns t c = wrote_as _ _ _ _ _ _ (sym (decimal_step c.args.n (omega arith) (omega arith))) (then _ _ _ _ _ _ _ _ c.put_number-next.ensures c.put-2.ensures)

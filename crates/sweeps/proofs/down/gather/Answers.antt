@@ -11,8 +11,8 @@ loop-j-init g c =
     let f = feeder c.args.sections.now c.args.switching in
     (c.requires.sound.some, first_stage (g.M.Measure.meaning c.args.m.now) (g.met.M.Measure.lawful c.args.m.now) f c.requires.sound c.args.out.now c.requires.start)
 
-pub offset-bounds-out-parent : goal.offset-bounds-out-parent
-offset-bounds-out-parent g c =
+pub offset_bounds-out-parent : goal.offset_bounds-out-parent
+offset_bounds-out-parent g c =
     let p = (parent_read (feeder c.args.sections.now c.args.switching) c.requires.sound (c.loop-j.j - 1) c.in-Some.p (omega arith) (omega arith) c.in-Some.is).1 in
     let low : c.in-Some.p < length c.loop-j.out = omega arith in
     search rules
@@ -22,8 +22,8 @@ bounds-out-parent g c =
     let p = (parent_read (feeder c.args.sections.now c.args.switching) c.requires.sound (c.loop-j.j - 1) c.in-Some.p (omega arith) (omega arith) c.in-Some.is).1 in
     omega arith
 
-pub offset-bounds-out-parent-in-Some : goal.offset-bounds-out-parent-in-Some
-offset-bounds-out-parent-in-Some g c =
+pub offset_bounds-out-parent-in-Some : goal.offset_bounds-out-parent-in-Some
+offset_bounds-out-parent-in-Some g c =
     let p = (parent_read (feeder c.args.sections.now c.args.switching) c.requires.sound (c.loop-j.j - 1) c.in-Some.p (omega arith) (omega arith) c.in-Some.is).1 in
     let low : c.in-Some.p < length c.loop-j.out = omega arith in
     search rules
@@ -54,8 +54,8 @@ loop-j-preserved-in-Some g c =
           (subst (λ (x : ℕ). Staged μ L f c.requires.sound x out) e c.loop-j.invariant.1)),
     )
 
-pub loop-j-preserved-in-default : goal.loop-j-preserved-in-default
-loop-j-preserved-in-default g c = absurd (parent_there (feeder c.args.sections.now c.args.switching) c.requires.sound (c.loop-j.j - 1) (omega arith) (omega arith) c.in-default.is)
+pub loop-j-preserved-in_default : goal.loop-j-preserved-in_default
+loop-j-preserved-in_default g c = absurd (parent_there (feeder c.args.sections.now c.args.switching) c.requires.sound (c.loop-j.j - 1) (omega arith) (omega arith) c.in_default.is)
 
 pub loop-j-preserved : goal.loop-j-preserved
 unfolding cut

@@ -15,8 +15,8 @@ pub loop-k-init : goal.loop-k-init
 unfolding join_over
 loop-k-init c = (λ j l. absurd (omega arith), refl)
 
-pub overflow-add-sum : goal.overflow-add-sum
-overflow-add-sum c =
+pub overflow_add-sum : goal.overflow_add-sum
+overflow_add-sum c =
     let f : Feeder = feeder c.args.sections.now c.args.switching in
     let k : ℕ = c.loop-k.k in
     let few = c.requires.sound.few in
@@ -27,10 +27,10 @@ loop-k-preserved c =
     let f : Feeder = feeder c.args.sections.now c.args.switching in
     let k : ℕ = c.loop-k.k in
     let more = sum_more (part f c.requires.sound c.args.by c.args.j) k in
-    let is = c.is-below-under.ensures in
+    let is = c.is_below-under.ensures in
     let old = c.loop-k.invariant.1 in
     let few = c.requires.sound.few in (
-      holds_more false (λ i. below (up f) i c.args.j) k c.loop-k.known c.is-below-under.result (omega arith) is c.loop-k.invariant.0,
+      holds_more false (λ i. below (up f) i c.args.j) k c.loop-k.known c.is_below-under.result (omega arith) is c.loop-k.invariant.0,
       elim c.if-under.branch [
         | then-under w ↦
             let here : part f c.requires.sound c.args.by c.args.j k ≡ weight_of c.args.by (figures f k) = cond-true _ _ _ (sym is ∙ w.if-under.true) in

@@ -6,17 +6,17 @@ use Rattle.sweeps.specs.Lists.{feeder}
 use Rattle.sweeps.specs.Weights.{weight_of}
 use Rattle.sweeps.proofs.tree.weight_shielded.Goals as goal
 
-pub overflow-sub-result : goal.overflow-sub-result
-overflow-sub-result c =
+pub overflow_sub-result : goal.overflow_sub-result
+overflow_sub-result c =
     let f : Feeder = feeder c.args.sections.now c.args.switching in
-    let above = c.weight-below.ensures.value ∙ ap (weight_below (weight_of c.args.by) f) c.head-of-h.ensures in
-    omega (arith, above, c.weight-below-2.ensures.value, shields (weight_of c.args.by) f c.requires.sound c.args.j)
+    let above = c.weight_below.ensures.value ∙ ap (weight_below (weight_of c.args.by) f) c.head_of-h.ensures in
+    omega (arith, above, c.weight_below-2.ensures.value, shields (weight_of c.args.by) f c.requires.sound c.args.j)
 
 pub returns : goal.returns
 unfolding shielded
 returns c =
     let f : Feeder = feeder c.args.sections.now c.args.switching in
     record {
-      value = ap₂ ◌-◌ (c.weight-below.ensures.value ∙ ap (weight_below (weight_of c.args.by) f) c.head-of-h.ensures) c.weight-below-2.ensures.value;
-      small = omega (arith, c.weight-below.ensures.small);
+      value = ap₂ ◌-◌ (c.weight_below.ensures.value ∙ ap (weight_below (weight_of c.args.by) f) c.head_of-h.ensures) c.weight_below-2.ensures.value;
+      small = omega (arith, c.weight_below.ensures.small);
     }

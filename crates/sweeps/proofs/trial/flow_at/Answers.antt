@@ -18,6 +18,6 @@ returns g c =
     let μ : Meaning g.row.M-Value.Denot = g.M.Measure.meaning c.args.m.now in
     let f : Feeder = feeder c.args.sections.now c.args.switching in
     let few = c.requires.sound.few in
-    get_or_read c.held-into.new.out c.args.j c.index-held-j.result (search (rules, places)) c.index-held-j.is μ.nothing
-    ∙ written_holds (held μ f) (length c.args.sections.now) _ _ μ.nothing c.held-into.ensures c.args.j c.requires.within
+    get_or_read c.held_into.new.out c.args.j c.index-held-j.result (search (rules, places)) c.index-held-j.is μ.nothing
+    ∙ written_holds (held μ f) (length c.args.sections.now) _ _ μ.nothing c.held_into.ensures c.args.j c.requires.within
     ∙ sym (cond-false _ _ _ c.if-sections-j.false)

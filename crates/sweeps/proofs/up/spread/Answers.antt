@@ -6,7 +6,7 @@ use Rattle.feeder.specs.Totals.{far_total}
 use Rattle.sweeps.specs.Lists.{feeder}
 use Rattle.sweeps.proofs.Turns.{Risen, rise_root, rise_bare, rise_switched, risen_all, parent_read, parent_there}
 use Rattle.sweeps.proofs.up.spread.Goals as goal
-use Rattle.sweeps.proofs.up.spread.Goals.{in-Some+then-sections-j, in-Some+else-sections-j, in-default}
+use Rattle.sweeps.proofs.up.spread.Goals.{in-Some+then-sections-j, in-Some+else-sections-j, in_default}
 
 pub loop-j-init : goal.loop-j-init
 loop-j-init g c =
@@ -19,8 +19,8 @@ loop-j-init g c =
     let v : c.join.result ≡ μ.join (far_total μ f) (get_or c.args.out.now 0 μ.nothing) = cc in
     rise_root μ (g.met.M.Measure.lawful c.args.m.now) f c.requires.sound c.args.out.now c.join.result (omega arith) v c.requires.start
 
-pub offset-bounds-out-p : goal.offset-bounds-out-p
-offset-bounds-out-p g c =
+pub offset_bounds-out-p : goal.offset_bounds-out-p
+offset_bounds-out-p g c =
     let p = (parent_read (feeder c.args.sections.now c.args.switching) c.requires.sound c.loop-j.j c.in-Some.p (omega arith) (omega arith) c.in-Some.is).1 in
     let low : c.in-Some.p < length c.loop-j.out = omega (arith, length-set c.args.out.now 0 c.join.result) in
     search rules
@@ -58,7 +58,7 @@ loop-j-preserved g c =
           let is = w.out-is in
           let v : c.match-sections-j.out ≡ set out i (get_or out p μ.nothing) = cc in
           subst (λ (xs : List V). Risen μ f (i + 1) xs) (sym v) (rise_bare μ L f S i p out (omega arith) (omega arith) room w.if-sections-j.false r.0 r.1 c.loop-j.invariant)
-      | in-default w ↦ absurd (parent_there f S i (omega arith) (omega arith) w.in-default.is)
+      | in_default w ↦ absurd (parent_there f S i (omega arith) (omega arith) w.in_default.is)
     ]
 
 pub returns : goal.returns

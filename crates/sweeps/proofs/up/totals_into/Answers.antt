@@ -11,12 +11,12 @@ pub spread-requires : goal.spread-requires
 spread-requires g c =
     let μ = g.M.Measure.meaning c.args.m.now in
     let n : ℕ = length c.args.sections.now in
-    let long : length c.held-into.new.out ≡ n = search (rules, places) in
+    let long : length c.held_into.new.out ≡ n = search (rules, places) in
     record {
       sound = c.requires.sound;
       long = long;
-      base = c.far-total-far.ensures;
-      start = written_holds (held μ (feeder c.args.sections.now c.args.switching)) n _ _ μ.nothing c.held-into.ensures;
+      base = c.far_total-far.ensures;
+      start = written_holds (held μ (feeder c.args.sections.now c.args.switching)) n _ _ μ.nothing c.held_into.ensures;
     }
 
 pub returns : goal.returns

@@ -13,8 +13,8 @@ pub loop-k-init : goal.loop-k-init
 unfolding join_over
 loop-k-init g c = refl
 
-pub overflow-mul-sum : goal.overflow-mul-sum
-overflow-mul-sum g c =
+pub overflow_mul-sum : goal.overflow_mul-sum
+overflow_mul-sum g c =
     let μ = g.M.Measure.meaning c.args.m.now in
     let L = g.met.M.Measure.lawful c.args.m.now in
     let number = g.M.Weighed.number c.args.m.now in
@@ -24,8 +24,8 @@ overflow-mul-sum g c =
     let e = share_read μ L number W c.args.by f c.requires.sound c.args.totals.now k _ _ c.index-totals-k.result (omega arith) (omega arith) c.requires.told c.index-totals-k.is c.of.ensures c.number.ensures.value in
     omega (arith, e, share_small μ L number W c.args.by f c.requires.sound k (omega arith))
 
-pub overflow-add-sum : goal.overflow-add-sum
-overflow-add-sum g c =
+pub overflow_add-sum : goal.overflow_add-sum
+overflow_add-sum g c =
     let μ = g.M.Measure.meaning c.args.m.now in
     let L = g.met.M.Measure.lawful c.args.m.now in
     let number = g.M.Weighed.number c.args.m.now in

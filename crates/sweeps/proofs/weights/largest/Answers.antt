@@ -26,11 +26,11 @@ loop-k-preserved g c =
       | then-number-most v ↦
           let more : h w < h k = omega (arith, here, best, v.if-number-most.true) in
           let new : P k c.number-number.result = (largest_takes h k w more c.loop-k.invariant.0, here) in
-          subst (λ (x : ℕ). P x c.if-number-most.most) (sym v.at_is) (subst (λ (x : ℕ). P k x) (sym v.most-is) new)
+          subst (λ (x : ℕ). P x c.if-number-most.most) (sym v.at-is) (subst (λ (x : ℕ). P k x) (sym v.most-is) new)
       | else-number-most v ↦
           let less : h k ≤ h w = omega (arith, here, best, v.if-number-most.false) in
           let old : P w c.loop-k.most = (largest_keeps h k w less c.loop-k.invariant.0, best) in
-          subst (λ (x : ℕ). P x c.if-number-most.most) (sym v.at_is) (subst (λ (x : ℕ). P w x) (sym v.most-is) old)
+          subst (λ (x : ℕ). P x c.if-number-most.most) (sym v.at-is) (subst (λ (x : ℕ). P w x) (sym v.most-is) old)
     ]
 
 pub returns : goal.returns

@@ -12,8 +12,8 @@ pub loop-section-init : goal.loop-section-init
 unfolding join_over
 loop-section-init c = refl
 
-pub overflow-add-sum : goal.overflow-add-sum
-overflow-add-sum c =
+pub overflow_add-sum : goal.overflow_add-sum
+overflow_add-sum c =
     let f : Feeder = feeder c.args.sections.now c.args.switching in
     let k : ℕ = c.loop-section.section-index in
     let few = c.requires.sound.few in

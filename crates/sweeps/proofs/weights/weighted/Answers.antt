@@ -8,14 +8,14 @@ use Rattle.sweeps.proofs.Turns.{written_holds}
 use Rattle.sweeps.proofs.Shares.{light}
 use Rattle.sweeps.proofs.weights.weighted.Goals as goal
 
-pub add-up-requires : goal.add-up-requires
-add-up-requires g c =
+pub add_up-requires : goal.add_up-requires
+add_up-requires g c =
     let μ = g.M.Measure.meaning c.args.m.now in
     let few = c.requires.sound.few in
     record {
       sound = c.requires.sound;
       room = search (rules, places);
-      told = written_holds (total μ (feeder c.args.sections.now c.args.switching)) (length c.args.sections.now) _ _ μ.nothing c.totals-into.ensures;
+      told = written_holds (total μ (feeder c.args.sections.now c.args.switching)) (length c.args.sections.now) _ _ μ.nothing c.totals_into.ensures;
     }
 
 pub returns : goal.returns
@@ -23,4 +23,4 @@ returns g c =
     let m = c.args.m.now in
     let w = weighed_at (g.M.Measure.meaning m) (g.met.M.Measure.lawful m) (g.M.Weighed.number m) (g.met.M.Weighed.weighs m) (weight_of c.args.by) (light c.args.by)
     (feeder c.args.sections.now c.args.switching) c.requires.sound in
-    record { value = c.add-up.ensures; small = omega (arith, c.add-up.ensures, w.sum_small) }
+    record { value = c.add_up.ensures; small = omega (arith, c.add_up.ensures, w.sum_small) }

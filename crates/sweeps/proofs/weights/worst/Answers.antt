@@ -11,4 +11,4 @@ returns g c =
     let number = g.M.Weighed.number c.args.m.now in
     let f = feeder c.args.sections.now c.args.switching in
     let h : ℕ → ℕ = λ j. number (total μ f j) in
-    largest_same _ h _ _ (λ j l. ap number (written_holds (total μ f) (length c.args.sections.now) _ _ μ.nothing c.totals-into.ensures j l)) c.largest.ensures
+    largest_same _ h _ _ (λ j l. ap number (written_holds (total μ f) (length c.args.sections.now) _ _ μ.nothing c.totals_into.ensures j l)) c.largest.ensures

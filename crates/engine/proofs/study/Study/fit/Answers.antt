@@ -12,26 +12,26 @@ use Rattle.engine.proofs.Replies.{err_some, index_of}
 use Rattle.engine.proofs.Switches.{fit_switched, fit_switches}
 use Rattle.engine.proofs.study.Study.fit.Goals as goal
 
-pub returns-in-err-at : goal.returns-in-err-at
-returns-in-err-at c =
+pub returns-in_err-at : goal.returns-in_err-at
+returns-in_err-at c =
     let f : Feeder = feeder_of c.args.self.now in
-    let p = err_from_is_err_and c.from-residual.result c.from-residual.ensures.1 in
-    let step = step_refused f (Fit c.args.k) _ (err_some _ _ _ c.in-err-at.ensures) in
+    let p = err_from_is_err_and c.from_residual.result c.from_residual.ensures.1 in
+    let step = step_refused f (Fit c.args.k) _ (err_some _ _ _ c.in_err-at.ensures) in
     rw (p.1, p.2) (record { step = step; logged = extends _ f f step; switched = refl; apart = tt; rest = refl })
 
-pub invariant-of-self : goal.invariant-of-self
-invariant-of-self c =
+pub invariant_of-self : goal.invariant_of-self
+invariant_of-self c =
     let s = c.args.self.now in
-    let i = index_of s c.args.k c.in-ok-at.at c.in-ok-at.ensures in
-    (simp length-set s.within, (s.few, (s.low, (s.high, (fine_take_marked s.lent.list.now s.count _ true s.within i.not_root i.within s.fine, tt)))))
+    let i = index_of s c.args.k c.in_ok-at.at c.in_ok-at.ensures in
+    record { within = simp length-set s.within; few = s.few; low = s.low; high = s.high; fine = fine_take_marked s.lent.list.now s.count _ true s.within i.not_root i.within s.fine }
 
 pub returns : goal.returns
 returns c =
     let s = c.args.self.now in
     let xs = s.lent.list.now in
     let k = c.args.k in
-    let i = index_of s k c.in-ok-at.at c.in-ok-at.ensures in
+    let i = index_of s k c.in_ok-at.at c.in_ok-at.ensures in
     let made : ℕ → Feeder = λ a. feeder (take s.count (set xs a (switched (get_or xs a blank)))) s.switching in
-    let g : Feeder = made c.in-ok-at.at in
+    let g : Feeder = made c.in_ok-at.at in
     let step = step_done (feeder_of s) (Fit k) g i.free (ap made i.same ∙ altered xs s.count k s.switching switched (rw i.same at i.within)) in
     record { step = step; logged = extends _ (feeder_of s) g step; switched = fit_switched (feeder_of s) g k Direct refl i.free step.1; apart = fit_switches (feeder_of s) k i.free; rest = drop-set-lt s.count xs _ _ i.within }

@@ -35,7 +35,7 @@ returns g c =
     let f : Feeder = feeder_of s in
     let μ : Meaning g.row.M-Value.Denot = g.M.Measure.meaning c.args.m.now in
     let l : j < size f = omega (arith, size_is s, c.if-at-self.false) in
-    let asked : c.flow-at.result ≡ if_there f j (flow μ f j) = subst (λ (h : Feeder). c.flow-at.result ≡ if_there h j (flow μ h j)) c.view.ensures c.flow-at.ensures in
+    let asked : c.flow_at.result ≡ if_there f j (flow μ f j) = subst (λ (h : Feeder). c.flow_at.result ≡ if_there h j (flow μ h j)) c.view.ensures c.flow_at.ensures in
     let free = before_end s j _ c.if-at-self.false ∙ simp (ne_eqb j 0 c.if-at-eq0.false) in
-    let told : c.ok-or.result ≡ flow_of μ j f = c.ok-or.ensures.value ∙ there f j (flow μ f j) _ NoSection l asked ∙ sym (answered _ _ free) in
+    let told : c.ok_or.result ≡ flow_of μ j f = c.ok_or.ensures.value ∙ there f j (flow μ f j) _ NoSection l asked ∙ sym (answered _ _ free) in
     record { answer = told; alike = alike_by (flow_of μ j) _ _ told; children = by_children }

@@ -15,16 +15,16 @@ use Rattle.engine.proofs.Replies.{err_some, index_of}
 use Rattle.engine.proofs.Sounds.{size_is, sound_if}
 use Rattle.engine.proofs.study.Study.full_trial.Goals as goal
 
-pub returns-in-err-at : goal.returns-in-err-at
-returns-in-err-at g c =
+pub returns-in_err-at : goal.returns-in_err-at
+returns-in_err-at g c =
     let s = c.args.self.now in
     let j = c.args.j in
     let f : Feeder = feeder_of s in
     let xs = c.args.out.now in
     let μ : Meaning g.row.M-Value.Denot = g.M.Measure.meaning c.args.m.now in
-    let p = err_from_is_err_and c.from-residual.result c.from-residual.ensures.1 in
-    let told : (Err c.in-err-at.field-0.0, xs) ≡ full_trial_of μ j xs f =
-    sym (ap (λ (o : Option Refusal). unless_refused o (if_room (size f) (total μ (fitted f j)) xs) xs) (err_some (untried f j) j _ c.in-err-at.ensures)) in
+    let p = err_from_is_err_and c.from_residual.result c.from_residual.ensures.1 in
+    let told : (Err c.in_err-at.field-0.0, xs) ≡ full_trial_of μ j xs f =
+    sym (ap (λ (o : Option Refusal). unless_refused o (if_room (size f) (total μ (fitted f j)) xs) xs) (err_some (untried f j) j _ c.in_err-at.ensures)) in
     rw (p.1, p.2) (record {
       answer = told;
       alike = alike_by (full_trial_of μ j xs) f _ told;
@@ -34,11 +34,11 @@ returns-in-err-at g c =
       kept = refl;
     })
 
-pub totals-with-requires : goal.totals-with-requires
+pub totals_with-requires : goal.totals_with-requires
 unfolding cut
-totals-with-requires g c =
+totals_with-requires g c =
     let s = c.args.self.now in
-    let i = index_of s c.args.j c.in-ok-at.at c.in-ok-at.ensures in
+    let i = index_of s c.args.j c.in_ok-at.at c.in_ok-at.ensures in
     record {
       within = s.within;
       few = s.few;
@@ -57,11 +57,11 @@ returns g c =
     let f : Feeder = feeder_of s in
     let xs = c.args.out.now in
     let μ : Meaning g.row.M-Value.Denot = g.M.Measure.meaning c.args.m.now in
-    let i = index_of s j c.in-ok-at.at c.in-ok-at.ensures in
-    let kept = c.totals-with.ensures.kept in
-    let told : (c.totals-with.result, c.totals-with.new.out) ≡ full_trial_of μ j xs f =
-    c.totals-with.ensures.totals
-    ∙ ap (λ (n : ℕ). if_room n (total μ (fitted f c.in-ok-at.at)) xs) (sym (size_is s))
+    let i = index_of s j c.in_ok-at.at c.in_ok-at.ensures in
+    let kept = c.totals_with.ensures.kept in
+    let told : (c.totals_with.result, c.totals_with.new.out) ≡ full_trial_of μ j xs f =
+    c.totals_with.ensures.totals
+    ∙ ap (λ (n : ℕ). if_room n (total μ (fitted f c.in_ok-at.at)) xs) (sym (size_is s))
     ∙ ap (λ (a : ℕ). if_room (size f) (total μ (fitted f a)) xs) i.same
     ∙ sym (ap (λ (o : Option Refusal). unless_refused o (if_room (size f) (total μ (fitted f j)) xs) xs) i.free) in
     let same = ap (λ (ys : List Section). feeder (take s.count ys) s.switching) kept in

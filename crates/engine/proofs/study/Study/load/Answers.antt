@@ -5,28 +5,28 @@ use Rattle.sweeps.specs.Lists.{feeder}
 use Rattle.archive.proofs.Fine.{keeps_fine}
 use Rattle.engine.proofs.study.Study.load.Goals as goal
 
-pub returns-in-err-count : goal.returns-in-err-count
-returns-in-err-count c =
+pub returns-in_err-count : goal.returns-in_err-count
+returns-in_err-count c =
     let s = c.args.self.now in
-    let p = err_from_is_err_and c.from-residual.result c.from-residual.ensures.1 in
-    let h = c.in-err-count.ensures.outcome in
+    let p = err_from_is_err_and c.from_residual.result c.from_residual.ensures.1 in
+    let h = c.in_err-count.ensures.outcome in
     rw (p.1, p.2) (record {
       outcome = record { fails = h.fails; list = h.list; feeder = ap (λ (ys : List Section). feeder (take s.count ys) s.switching) h.list };
-      one = c.in-err-count.ensures.one;
+      one = c.in_err-count.ensures.one;
       starts = tt;
     })
 
-pub invariant-of-self-2 : goal.invariant-of-self-2
-invariant-of-self-2 c =
-    let h = c.in-ok-count.ensures.outcome in
+pub invariant_of-self-2 : goal.invariant_of-self-2
+invariant_of-self-2 c =
+    let h = c.in_ok-count.ensures.outcome in
     let k = h.keeps in
-    (h.within, (omega (arith, h.count, k.count_range.1), ((λ _. k.time_range.0), (k.time_range.1, (keeps_fine k, tt)))))
+    record { within = h.within; few = omega (arith, h.count, k.count_range.1); low = λ _. k.time_range.0; high = k.time_range.1; fine = keeps_fine k }
 
 pub returns : goal.returns
 returns c =
-    let h = c.in-ok-count.ensures.outcome in
+    let h = c.in_ok-count.ensures.outcome in
     record {
       outcome = record { keeps = h.keeps; rest = h.rest };
-      one = c.in-ok-count.ensures.one;
+      one = c.in_ok-count.ensures.one;
       starts = (_, _, h.keeps, refl);
     }

@@ -5,4 +5,4 @@ use Rattle.engine.proofs.Asked.{alike_by}
 use Rattle.engine.proofs.study.Study.saidi.Goals as goal
 
 pub returns : goal.returns
-returns c = record { answer = c.per-customer.ensures; alike = alike_by saidi_of (feeder_of c.args.self.now) _ c.per-customer.ensures }
+returns c = record { answer = c.per_customer.ensures; alike = alike_by saidi_of (feeder_of c.args.self.now) _ c.per_customer.ensures }

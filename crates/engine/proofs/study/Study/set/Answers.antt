@@ -26,8 +26,8 @@ returns-then-at-self c =
     let step : Step f (changed (direct (Set a.k a.rate a.quarters a.customers a.load)) (gave (Err NoSection))) f = search rules in
     record { step = step; logged = extends _ f f step; rest = refl }
 
-pub invariant-of-self : goal.invariant-of-self
-invariant-of-self c =
+pub invariant_of-self : goal.invariant_of-self
+invariant_of-self c =
     let s = c.args.self.now in
     let a = c.args in
     let xs = s.lent.list.now in
@@ -36,7 +36,7 @@ invariant-of-self c =
     let least : 1 ≤ a.quarters = omega (arith, c.if-quarters-lt1.false) in
     let good = fine_refigured a.k old a.rate a.quarters a.customers a.load (fine_at xs s.count a.k s.within c.if-at-self.false s.fine)
     c.if-rate-gt100000.false least c.if-quarters-gt672.false c.if-customers-gt4000.false c.if-load-gt4000.false in
-    (simp length-set s.within, (s.few, (s.low, (s.high, (fine_take xs s.count a.k (touched x old) s.within c.if-at-self.false s.fine good, tt)))))
+    record { within = simp length-set s.within; few = s.few; low = s.low; high = s.high; fine = fine_take xs s.count a.k (touched x old) s.within c.if-at-self.false s.fine good }
 
 pub returns : goal.returns
 returns c =

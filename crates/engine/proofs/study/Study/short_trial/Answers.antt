@@ -16,14 +16,14 @@ use Rattle.engine.proofs.Replies.{err_some, index_of, there}
 use Rattle.engine.proofs.Sounds.{size_is, sound_if}
 use Rattle.engine.proofs.study.Study.short_trial.Goals as goal
 
-pub returns-in-err-at : goal.returns-in-err-at
-returns-in-err-at g c =
+pub returns-in_err-at : goal.returns-in_err-at
+returns-in_err-at g c =
     let s = c.args.self.now in
     let m = c.args.m.now in
     let μ = g.M.Measure.meaning m in
     let number = g.M.Weighed.number m in
-    let p = err_from_is_err_and c.from-residual.result c.from-residual.ensures.1 in
-    let told : Err c.in-err-at.field-0.0 ≡ short_trial_of μ number (weight_of Load) c.args.j (feeder_of s) = sym (turned_down _ _ _ (err_some _ _ _ c.in-err-at.ensures)) in
+    let p = err_from_is_err_and c.from_residual.result c.from_residual.ensures.1 in
+    let told : Err c.in_err-at.field-0.0 ≡ short_trial_of μ number (weight_of Load) c.args.j (feeder_of s) = sym (turned_down _ _ _ (err_some _ _ _ c.in_err-at.ensures)) in
     rw (p.1, p.2) (record {
       answer = told;
       alike = alike_by (short_trial_of μ number (weight_of Load) c.args.j) _ _ told;
@@ -38,13 +38,13 @@ returns g c =
     let m = c.args.m.now in
     let μ : Meaning g.row.M-Value.Denot = g.M.Measure.meaning m in
     let number = g.M.Weighed.number m in
-    let i = index_of s j c.in-ok-at.at c.in-ok-at.ensures in
+    let i = index_of s j c.in_ok-at.at c.in_ok-at.ensures in
     let value : Feeder → ℕ → ℕ × ℕ × ℕ = λ h a. short_trial (number (flow μ h a)) (shielded (weight_of Load) h a) in
-    let l : c.in-ok-at.at < size f = omega (arith, size_is s, i.within) in
-    let asked : c.short-trial.result ≡ if_there f c.in-ok-at.at (value f c.in-ok-at.at) =
-    subst (λ (h : Feeder). c.short-trial.result ≡ if_there h c.in-ok-at.at (value h c.in-ok-at.at)) c.view.ensures c.short-trial.ensures in
-    let told : c.ok-or.result ≡ short_trial_of μ number (weight_of Load) j f =
-    c.ok-or.ensures.value ∙ there f _ _ _ NoSection l asked ∙ ap (λ (a : ℕ). Ok (value f a)) i.same ∙ sym (answered _ _ i.free) in
+    let l : c.in_ok-at.at < size f = omega (arith, size_is s, i.within) in
+    let asked : c.short_trial.result ≡ if_there f c.in_ok-at.at (value f c.in_ok-at.at) =
+    subst (λ (h : Feeder). c.short_trial.result ≡ if_there h c.in_ok-at.at (value h c.in_ok-at.at)) c.view.ensures c.short_trial.ensures in
+    let told : c.ok_or.result ≡ short_trial_of μ number (weight_of Load) j f =
+    c.ok_or.ensures.value ∙ there f _ _ _ NoSection l asked ∙ ap (λ (a : ℕ). Ok (value f a)) i.same ∙ sym (answered _ _ i.free) in
     record {
       answer = told;
       alike = alike_by (short_trial_of μ number (weight_of Load) j) _ _ told;

@@ -34,10 +34,10 @@ returns g c =
     let few = s.few in
     let n : size h ≡ s.count = ap size e ∙ size_is s in
     let l : k < size h = omega (arith, n, c.if-at-self.false) in
-    let fits : c.totals-into.result ≡ true = c.totals-into.ensures.fits ∙ le-leb _ _ (omega (arith, n, few)) in
+    let fits : c.totals_into.result ≡ true = c.totals_into.ensures.fits ∙ le-leb _ _ (omega (arith, n, few)) in
     let value : c.index-totals-at.result ≡ total μ f k =
-    get_or_read c.totals-into.new.out k c.index-totals-at.result (search (rules, places)) c.index-totals-at.is μ.nothing
-    ∙ written_holds (total μ h) (size h) _ _ μ.nothing (c.totals-into.ensures.totals ∙ cond-true _ _ _ fits) k l
+    get_or_read c.totals_into.new.out k c.index-totals-at.result (search (rules, places)) c.index-totals-at.is μ.nothing
+    ∙ written_holds (total μ h) (size h) _ _ μ.nothing (c.totals_into.ensures.totals ∙ cond-true _ _ _ fits) k l
     ∙ ap (λ (x : Feeder). total μ x k) e in
     let told : Ok c.index-totals-at.result ≡ total_of μ k f = ap Ok value ∙ sym (answered _ _ (before_end s k None c.if-at-self.false)) in
     record { answer = told; alike = alike_by (total_of μ k) _ _ told; spares = switch_spares μ (g.met.M.Measure.lawful c.args.m.now) f (sound_if s); words = tree }

@@ -23,16 +23,16 @@ returns-then-self-eq0 g c =
     let told : (Err NoSection, xs) ≡ totals_of μ xs f = sym (ap (λ (o : Option Refusal). unless_refused o (if_room (size f) (total μ f) xs) xs) (none_there s None c.if-self-eq0.true)) in
     record { answer = told; alike = alike_by (totals_of μ xs) f _ told; spares = switch_spares μ (g.met.M.Measure.lawful c.args.m.now) f (sound_if s) }
 
-pub returns-then-not-totals-into : goal.returns-then-not-totals-into
-returns-then-not-totals-into g c =
+pub returns-then-not-totals_into : goal.returns-then-not-totals_into
+returns-then-not-totals_into g c =
     let s = c.args.self.now in
     let f : Feeder = feeder_of s in
     let xs = c.args.out.now in
     let μ : Meaning g.row.M-Value.Denot = g.M.Measure.meaning c.args.m.now in
-    let no : c.totals-into.result ≡ false = c.if-not-totals-into.true in
-    let room : leb (size f) (length xs) ≡ false = ap (λ (h : Feeder). leb (size h) (length xs)) (sym c.view.ensures) ∙ sym c.totals-into.ensures.fits ∙ no in
-    let told : (Err Short, c.totals-into.new.out) ≡ totals_of μ xs f =
-    ap (λ os. (Err Short, os)) (c.totals-into.ensures.totals ∙ cond-false _ _ _ no)
+    let no : c.totals_into.result ≡ false = c.if-not-totals_into.true in
+    let room : leb (size f) (length xs) ≡ false = ap (λ (h : Feeder). leb (size h) (length xs)) (sym c.view.ensures) ∙ sym c.totals_into.ensures.fits ∙ no in
+    let told : (Err Short, c.totals_into.new.out) ≡ totals_of μ xs f =
+    ap (λ os. (Err Short, os)) (c.totals_into.ensures.totals ∙ cond-false _ _ _ no)
     ∙ sym (ap (λ (o : Option Refusal). unless_refused o (if_room (size f) (total μ f) xs) xs) (some_there s None c.if-self-eq0.false) ∙ roomy (size f) (total μ f) xs false room) in
     record { answer = told; alike = alike_by (totals_of μ xs) f _ told; spares = switch_spares μ (g.met.M.Measure.lawful c.args.m.now) f (sound_if s) }
 
@@ -42,9 +42,9 @@ returns g c =
     let f : Feeder = feeder_of s in
     let xs = c.args.out.now in
     let μ : Meaning g.row.M-Value.Denot = g.M.Measure.meaning c.args.m.now in
-    let yes : c.totals-into.result ≡ true = c.if-not-totals-into.false in
-    let room : leb (size f) (length xs) ≡ true = ap (λ (h : Feeder). leb (size h) (length xs)) (sym c.view.ensures) ∙ sym c.totals-into.ensures.fits ∙ yes in
-    let told : (Ok tt, c.totals-into.new.out) ≡ totals_of μ xs f =
-    ap (λ os. (Ok tt, os)) (c.totals-into.ensures.totals ∙ cond-true _ _ _ yes ∙ ap (λ (h : Feeder). written (total μ h) (size h) xs) c.view.ensures)
+    let yes : c.totals_into.result ≡ true = c.if-not-totals_into.false in
+    let room : leb (size f) (length xs) ≡ true = ap (λ (h : Feeder). leb (size h) (length xs)) (sym c.view.ensures) ∙ sym c.totals_into.ensures.fits ∙ yes in
+    let told : (Ok tt, c.totals_into.new.out) ≡ totals_of μ xs f =
+    ap (λ os. (Ok tt, os)) (c.totals_into.ensures.totals ∙ cond-true _ _ _ yes ∙ ap (λ (h : Feeder). written (total μ h) (size h) xs) c.view.ensures)
     ∙ sym (ap (λ (o : Option Refusal). unless_refused o (if_room (size f) (total μ f) xs) xs) (some_there s None c.if-self-eq0.false) ∙ roomy (size f) (total μ f) xs true room) in
     record { answer = told; alike = alike_by (totals_of μ xs) f _ told; spares = switch_spares μ (g.met.M.Measure.lawful c.args.m.now) f (sound_if s) }

@@ -35,12 +35,12 @@ returns-then-not-self-at c =
     let step = step_refused f (Unfit k) Clear (unfit_judged s.lent.list.now s.count k s.switching s.within c.if-at-self.false c.if-at-eq0.false false c.if-not-self-at.true) in
     record { step = step; logged = extends _ f f step; rest = refl }
 
-pub invariant-of-self : goal.invariant-of-self
-invariant-of-self c =
+pub invariant_of-self : goal.invariant_of-self
+invariant_of-self c =
     let s = c.args.self.now in
     let k = c.args.k in
     let pos : 0 < k = let z = c.if-at-eq0.false in omega (arith, z) in
-    (simp length-set s.within, (s.few, (s.low, (s.high, (fine_take_marked s.lent.list.now s.count k false s.within pos c.if-at-self.false s.fine, tt)))))
+    record { within = simp length-set s.within; few = s.few; low = s.low; high = s.high; fine = fine_take_marked s.lent.list.now s.count k false s.within pos c.if-at-self.false s.fine }
 
 pub returns : goal.returns
 returns c =

@@ -5,10 +5,10 @@ use Rattle.feeder.specs.Checked.{AllFine}
 use Rattle.engine.proofs.Sounds.{size_is}
 use Rattle.engine.proofs.study.Study.view.Goals as goal
 
-pub invariant-of-result : goal.invariant-of-result
-invariant-of-result c =
+pub invariant_of-result : goal.invariant_of-result
+invariant_of-result c =
     let s = c.args.self.now in
     let xs : List Section = s.lent.list.now in
     let part : take (s.count - 0) xs ≡ take s.count xs = ap (λ k. take k xs) (sub-zero s.count) in
     let long : length (take (s.count - 0) xs) ≡ s.count = ap length part ∙ size_is s in
-    (omega (arith, long, c.requires), (omega (arith, long, s.few), (s.low c.requires, (s.high, (subst AllFine (sym part) s.fine, tt)))))
+    record { some = omega (arith, long, c.requires); few = omega (arith, long, s.few); low = s.low c.requires; high = s.high; fine = subst AllFine (sym part) s.fine }

@@ -11,30 +11,25 @@ use Rattle.sweeps.specs.Lists.{feeder, written}
 use Rattle.engine.proofs.Fines.{fine_take_marked, take_fitted, unmarked}
 use Rattle.engine.proofs.study.trials.totals_fitted.Goals as goal
 
-pub invariant-of-v : goal.invariant-of-v
-invariant-of-v g c =
+pub invariant_of-v : goal.invariant_of-v
+invariant_of-v g c =
     let xs : List Section = c.args.list.now in
     let n = c.args.n in
     let ys : List Section = set xs c.args.at (switched (get_or xs c.args.at blank)) in
     let lent : c.sections-lent.result.now ≡ ys = c.sections-lent.ensures in
     let part : take (n - 0) c.sections-lent.result.now ≡ take n ys = ap (λ k. take k c.sections-lent.result.now) (sub-zero n) ∙ ap (take n) lent in
     let w : n ≤ length ys = rw (length-set xs c.args.at (switched (get_or xs c.args.at blank))) c.requires.within in
-    let long : length (take (n - 0) c.sections-lent.result.now) ≡ n = ap length part ∙ length-take-le n ys w in (
-      omega (arith, long, c.requires.below),
-      (
-        omega (arith, long, c.requires.few),
-        (
-          c.requires.low,
-          (
-            c.requires.high,
-            (subst AllFine (sym part) (fine_take_marked xs n c.args.at true c.requires.within c.requires.above c.requires.below c.requires.fine), tt),
-          ),
-        ),
-      ),
-    )
+    let long : length (take (n - 0) c.sections-lent.result.now) ≡ n = ap length part ∙ length-take-le n ys w in
+    record {
+      some = omega (arith, long, c.requires.below);
+      few = omega (arith, long, c.requires.few);
+      low = c.requires.low;
+      high = c.requires.high;
+      fine = subst AllFine (sym part) (fine_take_marked xs n c.args.at true c.requires.within c.requires.above c.requires.below c.requires.fine);
+    }
 
-pub returns-then-not-totals-into : goal.returns-then-not-totals-into
-returns-then-not-totals-into g c =
+pub returns-then-not-totals_into : goal.returns-then-not-totals_into
+returns-then-not-totals_into g c =
     let xs : List Section = c.args.list.now in
     let n = c.args.n in
     let k = c.args.at in
@@ -47,12 +42,12 @@ returns-then-not-totals-into g c =
     let h : k < length xs = omega (arith, c.requires.within, c.requires.below) in
     let long : length zs ≡ n = ap length part ∙ length-take-le n ys w in
     let shown : feeder zs c.args.switching ≡ fitted (feeder (take n xs) c.args.switching) k = ap (λ (zs : List Section). feeder zs c.args.switching) part ∙ take_fitted xs n k c.args.switching c.requires.below in
-    let room : leb n (length c.args.out.now) ≡ c.totals-into.result = ap (λ (l : ℕ). leb l (length c.args.out.now)) (sym long) ∙ sym c.totals-into.ensures.fits in
-    let no : c.totals-into.result ≡ false = c.if-not-totals-into.true in
+    let room : leb n (length c.args.out.now) ≡ c.totals_into.result = ap (λ (l : ℕ). leb l (length c.args.out.now)) (sym long) ∙ sym c.totals_into.ensures.fits in
+    let no : c.totals_into.result ≡ false = c.if-not-totals_into.true in
     record {
       kept = c.drop-guard.ensures ∙ unmarked xs k h c.requires.bare;
       totals =
-          ap (λ os. (Err Short, os)) (c.totals-into.ensures.totals ∙ cond-false _ _ _ no)
+          ap (λ os. (Err Short, os)) (c.totals_into.ensures.totals ∙ cond-false _ _ _ no)
           ∙ sym (roomy n (total μ (fitted (feeder (take n xs) c.args.switching) k)) c.args.out.now false (room ∙ no));
     }
 
@@ -70,10 +65,10 @@ returns g c =
     let h : k < length xs = omega (arith, c.requires.within, c.requires.below) in
     let long : length zs ≡ n = ap length part ∙ length-take-le n ys w in
     let shown : feeder zs c.args.switching ≡ fitted (feeder (take n xs) c.args.switching) k = ap (λ (zs : List Section). feeder zs c.args.switching) part ∙ take_fitted xs n k c.args.switching c.requires.below in
-    let room : leb n (length c.args.out.now) ≡ c.totals-into.result = ap (λ (l : ℕ). leb l (length c.args.out.now)) (sym long) ∙ sym c.totals-into.ensures.fits in
-    let yes : c.totals-into.result ≡ true = c.if-not-totals-into.false in
-    let out : c.totals-into.new.out ≡ written (total μ (fitted (feeder (take n xs) c.args.switching) k)) n c.args.out.now =
-    c.totals-into.ensures.totals ∙ cond-true _ _ _ yes
+    let room : leb n (length c.args.out.now) ≡ c.totals_into.result = ap (λ (l : ℕ). leb l (length c.args.out.now)) (sym long) ∙ sym c.totals_into.ensures.fits in
+    let yes : c.totals_into.result ≡ true = c.if-not-totals_into.false in
+    let out : c.totals_into.new.out ≡ written (total μ (fitted (feeder (take n xs) c.args.switching) k)) n c.args.out.now =
+    c.totals_into.ensures.totals ∙ cond-true _ _ _ yes
     ∙ (λ t. written (total μ (shown t)) (long t) c.args.out.now) in
     record {
       kept = c.drop-guard-2.ensures ∙ unmarked xs k h c.requires.bare;

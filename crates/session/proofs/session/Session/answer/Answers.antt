@@ -29,7 +29,7 @@ loop-at-preserved c =
     let i = c.loop-at.invariant in
     let go = c.next-next.ensures.goes in
     let moved = go.moves c.loop-at-test.true in
-    let feeds = subst (λ (o : Option Input). Feeds c.loop-at.self.lines (between c.loop-at.at c.next-next.result.0 c.args.block.now) o c.next-next.new.self) c.in-default.is c.next-next.ensures.fed in (
+    let feeds = subst (λ (o : Option Input). Feeds c.loop-at.self.lines (between c.loop-at.at c.next-next.result.0 c.args.block.now) o c.next-next.new.self) c.in_default.is c.next-next.ensures.fed in (
       omega (arith, i.0, moved),
       (λ l. go.within (omega (arith, i.1 l))),
       i.2,

@@ -4,13 +4,13 @@ use Rattle.stream.specs.declared.input.Input.{Input}
 use Rattle.stream.specs.Streams.{held, Fed, Ended}
 use Rattle.stream.proofs.Feeds.{ended_none, ended_line, no_part, some_part, one_parting}
 use Rattle.stream.proofs.lines.Lines.finish.Goals as goal
-use Rattle.stream.proofs.lines.Lines.finish.Goals.{else-not-self-via-then-not-self+else-is-empty, else-not-self-via-else-not-self}
+use Rattle.stream.proofs.lines.Lines.finish.Goals.{else-not-self-via-then-not-self+else-is_empty, else-not-self-via-else-not-self}
 
-pub returns-then-is-empty : goal.returns-then-is-empty
-returns-then-is-empty c =
+pub returns-then-is_empty : goal.returns-then-is_empty
+returns-then-is_empty c =
     let s = c.args.self.now in
     let e : (bs : List ℕ) (ds : List Input) → Fed bs ds s → Ended bs (ds ++ []) = λ bs ds f.
-    ended_none bs ds s (λ part h. no_part s.long (held s.text) part c.if-not-self.true c.if-is-empty.ensures h) f in
+    ended_none bs ds s (λ part h. no_part s.long (held s.text) part c.if-not-self.true c.if-is_empty.ensures h) f in
     record { ended = e; one = λ bs ds f. one_parting bs _ (e bs ds f) }
 
 pub returns-else-not-self : goal.returns-else-not-self
@@ -19,5 +19,5 @@ returns-else-not-self c =
     let e : (bs : List ℕ) (ds : List Input) → Fed bs ds s → Ended bs (ds ++ (c.ended.result ∷ [])) = λ bs ds f.
     ended_line bs ds s c.ended.result c.ended.ensures
     (λ part h. some_part s.long (held s.text) part
-    (λ short. elim c.else-not-self.branch [ else-not-self-via-then-not-self+else-is-empty w ↦ w.if-is-empty.ensures | else-not-self-via-else-not-self w ↦ absurd (both_ways _ short w.if-not-self.false) ]) h) f in
+    (λ short. elim c.else-not-self.branch [ else-not-self-via-then-not-self+else-is_empty w ↦ w.if-is_empty.ensures | else-not-self-via-else-not-self w ↦ absurd (both_ways _ short w.if-not-self.false) ]) h) f in
     record { ended = e; one = λ bs ds f. one_parting bs _ (e bs ds f) }

@@ -23,5 +23,5 @@ loop-at-preserved c =
       (λ h. omega arith),
       (λ h. absurd (omega arith)),
       λ bs ds f. fed_more bs c.args.bytes.now c.args.from c.loop-at.at _ _ inv.0 (omega arith)
-          (gave_none _ ds _ (c.in-default.ensures _ ds (inv.3 bs ds f))),
+          (gave_none _ ds _ (c.in_default.ensures _ ds (inv.3 bs ds f))),
     )
