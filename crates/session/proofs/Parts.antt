@@ -1,5 +1,5 @@
 -- Parts of lists that a block and an output list come in. Assumes nothing.
-use Rattle.std.proofs.Common.{◌≡◌, ℕ, ◌+◌, ◌-◌, ◌<◌, ◌≤◌, List, ◌++◌, length, take, drop, sym, refl, ap, ◌∙◌, subst, ap₂, append_assoc, arith, length-append, length-take-le, drop-drop, take_at, take-add, drop_at}
+use Rattle.std.proofs.Common.{◌≡◌, ℕ, ◌+◌, ◌-◌, ◌<◌, ◌≤◌, List, ◌++◌, length, take, drop, sym, refl, ap, ◌∙◌, subst, ap₂, append_assoc, arith, length-append, length-take-le, drop-drop, take_at, take-add, drop_at, zero-add}
 use borrow.Rule.Slice.PartMut.{put_mid}
 use Rattle.std.proofs.lemmas.List.{drop-take, take-append-drop}
 use Rattle.std.specs.List.{between}
@@ -32,3 +32,7 @@ module _ (used k n : ℕ) (xs ys text : List ℕ) (l : used ≤ length xs) (m : 
 
   pub rest_behind : drop (used + n) (put_mid used k xs ys) ≡ drop (used + n) xs
   rest_behind = ap (drop (used + n)) behind ∙ drop_at (take used xs ++ text) _ _ long
+
+-- the same in the first k entries of a list
+pub behind_front : (k n : ℕ) (os ys text : List ℕ) → n ≤ k → n ≡ length text → ys ≡ text ++ drop n (take k os) → put_mid 0 k os ys ≡ text ++ drop n os
+behind_front k n os ys text m s e = behind 0 k n os ys text (omega arith) m s e ∙ ap (λ (i : ℕ). text ++ drop i os) (zero-add n)

@@ -17,7 +17,7 @@ use Rattle.console.specs.Replies.{said, moved}
 use Rattle.console.proofs.Longest.{too_long}
 use Rattle.console.proofs.Steps.{step_moved}
 use Rattle.session.specs.declared.session.Session.{Session}
-use Rattle.session.specs.Talks.{Talk, Conversation, InputReads, InputTalk, Talked, Talks, Replied}
+use Rattle.session.specs.Talks.{Talk, Conversation, InputReads, InputTalk, Talked, Talks, Replied, Heard}
 use Rattle.session.proofs.Parts.{between_join}
 
 -- one more line
@@ -79,19 +79,11 @@ ended_none f g bs out s k ends =
     subst (λ (ys : List ℕ). Conversation f bs ys g) (sym (append-nil out))
     (ended f g bs out (k.inputs ++ []) (ends bs k.inputs k.fed) (subst (λ (ds : List Input). InputTalk f ds out g) (sym (append-nil k.inputs)) k.talk))
 
--- what was read of a line as it was handed out, from what holds of every line that it may have been
-pub record Heard (i : Input) (before : List ℕ) (f : Feeder) (n : ℕ) (after : List ℕ) (g : Feeder) : Type 0 where
-  pub line : Option Line
-  pub reads : InputReads i line
-  pub size : n ≡ length (answer_text (said line f))
-  pub small : n ≤ 64
-  pub list : after ≡ answer_text (said line f) ++ drop n before
-  pub feeder : g ≡ moved line f
-
 none_read : (xs : List ℕ) (o : Option Line) → Reads xs None → Reads xs o → o ≡ None
 none_read xs None h r = refl
 none_read xs (Some l) h r = absurd (h l r)
 
+-- what was read of a line as it was handed out, from what holds of every line that it may have been
 pub heard : (i : Input) (before : List ℕ) (f : Feeder) (n : ℕ) (after : List ℕ) (g : Feeder) → ((l : List ℕ) → Delivers l i → Lined l before f (Ok n) after g) → Heard i before f n after g
 heard (input.Line t) before f n after g h =
     let m = t.fits in

@@ -62,3 +62,12 @@ pub record Replied (i : Input) (was : List ℕ) (used : ℕ) (f : Feeder) (n : �
   pub front : take (used + n) after ≡ take used was ++ answer_text (said line f)
   pub rest : drop (used + n) after ≡ drop (used + n) was
   pub feeder : g ≡ moved line f
+
+-- one line as it is handed out, answered at the front of an output list
+pub record Heard (i : Input) (was : List ℕ) (f : Feeder) (n : ℕ) (after : List ℕ) (g : Feeder) : Type 0 where
+  pub line : Option Line
+  pub reads : InputReads i line
+  pub size : n ≡ length (answer_text (said line f))
+  pub small : n ≤ 64
+  pub list : after ≡ answer_text (said line f) ++ drop n was
+  pub feeder : g ≡ moved line f

@@ -1,7 +1,7 @@
 // One line, answered behind the bytes already written.
 ghost use Rattle.std.specs.Prelude.{◌≡◌, ℕ, ◌+◌, ◌≤◌, length};
 ghost use Rattle.engine.specs.Studies.{feeder_of, beyond};
-ghost use Rattle.session.specs.Talks.{Replied};
+ghost use Rattle.session.specs.Talks.{Heard, Replied};
 
 use console::answer_input;
 use engine::Study;
@@ -10,15 +10,24 @@ use stream::Input;
 
 // Each line is given an output list of just the room that every answer fits, wherever in the output its answer comes to stand, so
 // that the same line is the same entry of a log.
+fn reply_in_front(study: &mut Study, input: &Input, out: &mut [u8]) -> usize
+    requires { 64 ≤ length out.old }
+    ensures heard { Heard input.now out.old (feeder_of study.old) result out.new (feeder_of study.new) }
+    ensures rest { beyond study.new ≡ beyond study.old }
+{
+    let part = &mut out[..ROOM];
+    match answer_input(study, input, part) {
+        Ok(n) => n,
+        Err(_) => 0,
+    }
+}
+
+// Behind the first `used` bytes.
 pub(crate) fn reply(study: &mut Study, input: &Input, out: &mut [u8], used: usize) -> usize
     requires { used + 64 ≤ length out.old }
     ensures replied { Replied input.now out.old used (feeder_of study.old) result out.new (feeder_of study.new) }
     ensures rest { beyond study.new ≡ beyond study.old }
 {
     let part = &mut out[used..];
-    let part = &mut part[..ROOM];
-    match answer_input(study, input, part) {
-        Ok(n) => n,
-        Err(_) => 0,
-    }
+    reply_in_front(study, input, part)
 }

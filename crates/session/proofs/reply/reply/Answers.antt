@@ -1,29 +1,24 @@
 use Rattle.std.proofs.Common.{ℕ, ◌+◌, ◌-◌, ◌≤◌, length, arith}
-use Rattle.feeder.specs.Feeder.{Feeder}
-use Rattle.engine.specs.Studies.{feeder_of}
 use Rattle.session.proofs.Parts.{front_behind, rest_behind}
-use Rattle.session.proofs.Talks.{heard}
 use Rattle.session.proofs.reply.reply.Goals as goal
 
-pub returns-in-Ok : goal.returns-in-Ok
-returns-in-Ok c =
+pub returns : goal.returns
+returns c =
     let xs = c.args.out.now in
     let used = c.args.used in
-    let f : Feeder = feeder_of c.args.study.now in
-    let n = c.in-Ok.n in
-    let l : used ≤ length xs = omega (arith, c.requires) in
-    let h = heard c.args.input.now _ f n c.answer_input.new.out (feeder_of c.answer_input.new.study) c.in-Ok.ensures.lined in
-    let k : ℕ = used + 64 - used in
+    let h = c.reply_in_front.ensures.heard in
+    let n = c.reply_in_front.result in
     let small = h.small in
-    let m : n ≤ k = omega (arith, small) in
+    let l : used ≤ length xs = omega (arith, c.requires) in
+    let m : n ≤ length xs - used = omega (arith, small, c.requires) in
     record {
       replied = record {
         line = h.line;
         reads = h.reads;
-        fits = omega (arith, h.small, c.requires);
-        front = front_behind used k n xs c.answer_input.new.out _ l m h.size h.list;
-        rest = rest_behind used k n xs c.answer_input.new.out _ l m h.size h.list;
+        fits = omega (arith, small, c.requires);
+        front = front_behind used (length xs - used) n xs _ _ l m h.size h.list;
+        rest = rest_behind used (length xs - used) n xs _ _ l m h.size h.list;
         feeder = h.feeder;
       };
-      rest = c.in-Ok.ensures.rest;
+      rest = c.reply_in_front.ensures.rest;
     }
