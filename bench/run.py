@@ -1,11 +1,11 @@
 #!/usr/bin/env python3
 """Times the program `study` on a feeder of 1,024 sections against a plain Rust program of the same method (bench/plain.rs, rustc -O) and,
 for the indices, against a plain count over single faults. Best of several runs each, in one run; prints microseconds a line and ratios.
-Run it from the root after `rt check study`, on an otherwise idle machine."""
+Run it from the root after tests/build.sh, on an otherwise idle machine."""
 import os, random, struct, subprocess, sys, tempfile, time
 
 ROOT = os.path.dirname(os.path.dirname(os.path.abspath(__file__)))
-STUDY = os.path.join(ROOT, 'target', 'bin', 'study')
+STUDY = os.path.join(ROOT, 'crates', 'study', 'out', 'study')
 RUNS = 9
 
 def archive(rng):

@@ -1,9 +1,10 @@
 #!/bin/sh
 # What no contract can say of the program `study`: that it reads its file and its streams as the definition says.
-# Runs target/bin/study on each case and compares what it prints and its status. Prints what it compared; ends with status 1 at the first that differs.
+# Builds it, runs it on each case and compares what it prints and its status. Prints what it compared; ends with status 1 at the first that differs.
 set -eu
 root=$(cd "$(dirname "$0")/.." && pwd)
-study=$root/target/bin/study
+"$root/tests/build.sh"
+study=$root/crates/study/out/study
 four=$root/crates/study/data/feeder.arc
 work=$(mktemp -d)
 trap 'rm -rf "$work"' EXIT
