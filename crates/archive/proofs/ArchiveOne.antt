@@ -1,5 +1,5 @@
 -- The bytes and the room fix what a load answers.
-use Rattle.std.proofs.Common.{◌≡◌, ℕ, ◌+◌, ◌*◌, ◌<◌, ◌≤◌, ◌⊎◌, List, [], ◌∷◌, length, sym, refl, ap, ◌∙◌, subst, inl, inr, ⊎_elim, arith}
+use Rattle.std.proofs.Common.{◌≡◌, ℕ, ◌+◌, ◌*◌, ◌<◌, ◌≤◌, List, [], ◌∷◌, length, sym, refl, ap, ◌∙◌, subst, inl, inr, ⊎_elim, arith}
 use Rattle.hours.specs.Quarters.{Quarters}
 use Rattle.hours.proofs.Decided.{quarters_one}
 use Rattle.std.proofs.lemmas.Bool.{cases_lt}

@@ -1,9 +1,9 @@
 -- Records one after another, and the hours of a record that is laid out.
-use Rattle.std.proofs.Common.{◌≡◌, ℕ, ◌+◌, ◌-◌, ◌≤◌, Bool, true, false, List, [], ◌∷◌, ◌++◌, length, pos, sym, refl, subst, arith, lit≤}
+use Rattle.std.proofs.Common.{◌≡◌, ℕ, ◌+◌, Bool, true, false, List, [], ◌∷◌, ◌++◌, length, pos, sym, refl, subst, arith, lit≤}
 use lib.Ieee.{binary64, of_bits, Float, fin}
 use lib.Ieee.Exact.{HasValue}
 use Rattle.hours.specs.Quarters.{Quarters}
-use Rattle.archive.specs.Layout.{hours, stands}
+use Rattle.archive.specs.Layout.{stands}
 use Rattle.archive.specs.Sections.{SectionOf}
 use Rattle.archive.specs.Reading.{FieldRead}
 use Rattle.archive.specs.Records.{Laid}

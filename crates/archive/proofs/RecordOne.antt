@@ -1,5 +1,5 @@
 -- The bytes fix a whole record: one record with one place after it, or one first fault, and never both.
-use Rattle.std.proofs.Common.{◌≡◌, ℕ, ◌+◌, ◌<◌, ◌≤◌, Bool, true, false, ◌⊎◌, List, [], ◌∷◌, get_or, sym, ap, ◌∙◌, subst, inl, inr, ⊎_elim, not-le_of_lt, arith}
+use Rattle.std.proofs.Common.{◌≡◌, ℕ, ◌+◌, ◌<◌, ◌≤◌, Bool, true, false, List, [], ◌∷◌, get_or, sym, ap, ◌∙◌, subst, inl, inr, ⊎_elim, not-le_of_lt, arith}
 use lib.Bits.{bit_and}
 use lib.Ieee.{binary64, of_bits}
 use Rattle.std.proofs.lemmas.Bool.{cases_lt}

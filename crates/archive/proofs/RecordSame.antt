@@ -1,5 +1,5 @@
 -- The bytes of a record by their places, and as one part after another, are the same.
-use Rattle.std.proofs.Common.{◌≡◌, ℕ, zero, suc, ◌+◌, ◌-◌, ◌<◌, ◌≤◌, Bool, true, false, List, [], ◌∷◌, ◌++◌, length, get_or, sym, refl, ap, ◌∙◌, subst, add-zero, arith, length-append}
+use Rattle.std.proofs.Common.{◌≡◌, ℕ, zero, suc, ◌+◌, ◌<◌, ◌≤◌, Bool, true, false, List, [], ◌∷◌, ◌++◌, length, get_or, sym, refl, ap, ◌∙◌, subst, add-zero, arith, length-append}
 use Rattle.archive.specs.Layout.{Field, fields, stands, bit, width, Good, absent, Printable, named}
 use Rattle.archive.specs.Grammar.{FieldIs, FieldsAre, NameIs, RecordIs}
 use Rattle.archive.specs.Reading.{number, FieldRead, ReadAll}

@@ -1,11 +1,11 @@
 -- No line has more than 64 bytes. Assumes nothing.
-use Rattle.std.proofs.Common.{◌≡◌, ℕ, ◌+◌, ◌*◌, ◌^◌, ◌<◌, ◌≤◌, List, [], ◌∷◌, ◌++◌, length, None, decimal, sym, refl, ap, ◌∙◌, subst, arith, length-append}
+use Rattle.std.proofs.Common.{◌≡◌, ℕ, ◌*◌, ◌<◌, ◌≤◌, List, [], ◌∷◌, length, None, decimal, ap, arith, length-append}
 use Rattle.std.proofs.lemmas.Fmt.{length-decimal-le}
 use Rattle.lines.specs.declared.change.Change.TheVariants.{Fit, Unfit, Set}
 use Rattle.lines.specs.declared.question.Question.TheVariants.{Minutes, Count, Longest, Trial, Indices}
 use Rattle.lines.specs.declared.line.Line.{Line}
 use Rattle.lines.specs.declared.line.Line.TheVariants.{Change, Question}
-use Rattle.lines.specs.Lines.{numbers, fields, text, Small, Says, Reads}
+use Rattle.lines.specs.Lines.{numbers, fields, text, Small, Reads}
 
 -- a space and at most ten digits for each number
 fields_short : (ns : List ℕ) → Small ns → length (fields ns) ≤ 11 * length ns

@@ -1,5 +1,5 @@
 -- A console line as a step of a log, and that its answer is one. Assumes nothing.
-use Rattle.std.proofs.Common.{◌≡◌, ℕ, ◌<◌, ◌≤◌, Bool, true, false, cond, ltb, List, [], ◌∷◌, ◌++◌, length, take, drop, set, Some, None, Ok, Err, Option, Result, sym, refl, ap, ◌∙◌, subst, ap₂, arith, take_at, le-ltb, lt-ltb, MatchResult}
+use Rattle.std.proofs.Common.{◌≡◌, ℕ, ◌<◌, ◌≤◌, Bool, true, false, cond, ltb, List, [], ◌++◌, length, take, drop, set, Some, None, Ok, Err, Option, Result, sym, refl, ap, ◌∙◌, subst, ap₂, arith, take_at, le-ltb, lt-ltb, MatchResult}
 use Rattle.feeder.specs.Feeder.{Feeder, size, at}
 use Rattle.sweeps.specs.Lists.{feeder}
 use Rattle.lines.specs.declared.refusal.Refusal.{Refusal}

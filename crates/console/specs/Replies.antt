@@ -11,7 +11,6 @@ use Rattle.archive.specs.declared.fault.LoadFault.{LoadFault}
 use Rattle.archive.specs.Faults.{told}
 use Rattle.lines.specs.declared.refusal.Refusal.{Refusal}
 use Rattle.lines.specs.declared.refusal.Refusal.TheVariants as refusal
-use Rattle.lines.specs.declared.change.Change.{Change}
 use Rattle.lines.specs.declared.question.Question.{Question}
 use Rattle.lines.specs.declared.question.Question.TheVariants as ask
 use Rattle.lines.specs.declared.line.Line.{Line}

@@ -1,18 +1,17 @@
 -- A change is judged on the number of sections and on the section that it names, and alters that section alone.
 -- So each section of a log's feeder comes from the changes that name it. Assumes nothing.
-use Rattle.std.proofs.Common.{◌≡◌, ℕ, ◌<◌, ◌≤◌, Bool, true, false, cond, not, eqb, ltb, leb, ◌≢◌, List, [], ◌∷◌, length, get_or, set, Some, None, Option, sym, refl, ap, ◌∙◌, subst, arith, length-set, get_or-set_other, get_or-set_same, eqb-true, leb-false}
+use Rattle.std.proofs.Common.{◌≡◌, ℕ, ◌<◌, Bool, true, false, cond, eqb, ◌≢◌, List, [], ◌∷◌, length, get_or, set, Some, None, Option, sym, refl, ap, ◌∙◌, subst, arith, length-set, get_or-set_other, get_or-set_same, eqb-true, leb-false}
 use borrow.Author.Tests.{eqb-false}
 use Rattle.std.proofs.lemmas.List.{same_lists, get_or_default}
 use Rattle.feeder.specs.declared.section.Section.{Section}
 use Rattle.lines.specs.declared.refusal.Refusal.{Refusal}
-use Rattle.lines.specs.declared.refusal.Refusal.TheVariants.{NoSection, Range, Root, Stands, Clear, Short}
 use Rattle.lines.specs.declared.change.Change.{Change}
 use Rattle.lines.specs.declared.change.Change.TheVariants.{Fit, Unfit, Set}
 use Rattle.archive.proofs.ArchiveOne.{keeps_one}
 use Rattle.engine.specs.declared.journal.Put.{Put}
 use Rattle.feeder.specs.Feeder.{Feeder, at, size, blank}
-use Rattle.engine.specs.Changes.{named, first, short, against, fault, touched, told, unless, judged, answer, after, Answer}
-use Rattle.engine.specs.Logs.{Entry, changed, asked, Step, Run, Log, changes, naming, answers, Same, Agree}
+use Rattle.engine.specs.Changes.{named, first, against, fault, touched, told, unless, judged, answer, after, Answer}
+use Rattle.engine.specs.Logs.{Entry, changed, asked, Run, Log, changes, naming, answers, Same, Agree}
 
 -- one section under one change, and under those that name it
 abbrev local : ℕ → Section → Put → Section

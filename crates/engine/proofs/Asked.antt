@@ -1,5 +1,5 @@
 -- The laws over two logs, from answers that the feeder decides. Assumes nothing.
-use Rattle.std.proofs.Common.{◌≡◌, ℕ, ◌+◌, ◌*◌, ◌<◌, ◌≤◌, Bool, true, false, eqb, ltb, leb, ◌⊎◌, List, length, Some, None, Ok, Err, Option, Result, sym, refl, ap, ◌∙◌, subst, inl, inr, ⊎_elim, arith, le-ltb, le-leb}
+use Rattle.std.proofs.Common.{◌≡◌, ℕ, ◌+◌, ◌*◌, ◌<◌, ◌≤◌, Bool, true, false, leb, List, length, Some, None, Ok, Err, Option, sym, refl, ap, ◌∙◌, subst, arith, le-ltb, le-leb}
 use borrow.Author.Tests.{lt-leb}
 use Rattle.feeder.specs.Feeder.{Feeder, Sound, size, fitted}
 use Rattle.feeder.specs.Measure.{Meaning, Lawful}
@@ -11,14 +11,13 @@ use Rattle.feeder.proofs.Totals.{spared_all}
 use Rattle.feeder.proofs.Feeders.{size_fitted}
 use Rattle.feeder.proofs.Weights.{weighed_at}
 use Rattle.sweeps.specs.Lists.{written}
-use Rattle.sweeps.specs.Weights.{short_trial}
 use Rattle.lines.specs.declared.refusal.Refusal.{Refusal}
 use Rattle.lines.specs.declared.refusal.Refusal.TheVariants.{NoSection, Short}
 use Rattle.engine.specs.Changes.{first}
-use Rattle.engine.specs.Laws.{Alike, AlikeBy, Switched, joined, Spares, SwitchSpares, Worth, SwitchWorth}
-use Rattle.engine.specs.Questions.{or_refused, missing, total_of, writes, if_room, unless_refused, sum_of, untried, short_trial_of, full_trial_of}
+use Rattle.engine.specs.Laws.{Alike, AlikeBy, Switched, joined, SwitchSpares, SwitchWorth}
+use Rattle.engine.specs.Questions.{or_refused, missing, writes, if_room, unless_refused, untried}
 use Rattle.engine.proofs.Apart.{order_apart}
-use Rattle.engine.proofs.Switches.{Bare, untried_bare}
+use Rattle.engine.proofs.Switches.{untried_bare}
 
 -- an answer that the feeder decides
 pub alike : {R : Type 0} (Answers : Feeder → R → Type 0) → ((h : Feeder) (r r' : R) → Answers h r → Answers h r' → r' ≡ r) → (f : Feeder) (r : R) → Answers f r → Alike Answers f r

@@ -4,7 +4,7 @@ use native.Mathlib.Nat.{mul-mod_right}
 use lib.Seq.{take-set-lt, set-get_or}
 use Rattle.std.proofs.lemmas.Bool.{cases_eq, and_parts, and_from, le-leb, eq-eqb}
 use Rattle.feeder.specs.declared.section.Section.{Section}
-use Rattle.feeder.specs.Feeder.{Feeder, blank, switched, fitted, at}
+use Rattle.feeder.specs.Feeder.{blank, switched, fitted}
 use Rattle.feeder.proofs.Checks.{name_is_fine}
 use Rattle.feeder.specs.Checked.{AllFine, fine, placed, in_range}
 use Rattle.sweeps.specs.Lists.{feeder}

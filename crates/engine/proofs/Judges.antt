@@ -1,17 +1,14 @@
 -- How changes and trials are judged on a study's feeder. Assumes nothing.
-use Rattle.std.proofs.Common.{◌≡◌, ℕ, ◌<◌, ◌≤◌, Bool, true, false, not, eqb, ltb, leb, List, length, get_or, take, set, Some, None, Ok, Err, Option, Result, sym, refl, ap, ◌∙◌, subst, arith, length-take-le, get_or-take, le-ltb, lt-ltb, eq-eqb, ne_eqb, le-leb, leb-false, leb-true, MatchResult}
-use lib.Seq.{take-set-lt}
+use Rattle.std.proofs.Common.{◌≡◌, ℕ, ◌<◌, ◌≤◌, Bool, true, false, not, eqb, leb, List, length, get_or, take, set, Some, None, Ok, Err, Option, sym, ap, ◌∙◌, length-take-le, get_or-take, le-ltb, lt-ltb, eq-eqb, ne_eqb, le-leb, leb-false, leb-true}
 use borrow.Author.Tests.{lt-leb}
 use Rattle.std.proofs.lemmas.Bool.{and_from}
 use Rattle.feeder.specs.declared.section.Section.{Section}
-use Rattle.feeder.specs.Feeder.{Feeder, size, at, fitted, blank}
-use Rattle.feeder.specs.Measure.{Meaning}
-use Rattle.feeder.specs.Totals.{total}
+use Rattle.feeder.specs.Feeder.{Feeder, size, at, blank}
 use Rattle.sweeps.specs.Lists.{feeder, written}
 use Rattle.lines.specs.declared.refusal.Refusal.{Refusal}
 use Rattle.lines.specs.declared.refusal.Refusal.TheVariants.{NoSection, Root, Stands, Clear, Short, Range}
 use Rattle.lines.specs.declared.change.Change.{Change}
-use Rattle.lines.specs.declared.change.Change.TheVariants.{Fit, Unfit, Set}
+use Rattle.lines.specs.declared.change.Change.TheVariants.{Unfit, Set}
 use Rattle.engine.specs.declared.journal.Call.TheVariants.{Direct}
 use Rattle.engine.specs.Changes.{first, settable, judged, told, touched, named, direct, gave, unless}
 use Rattle.engine.specs.Logs.{Step, changed}

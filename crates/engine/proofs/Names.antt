@@ -1,5 +1,5 @@
 -- The name question, by the section that the study's list holds. Assumes nothing.
-use Rattle.std.proofs.Common.{◌≡◌, ℕ, ◌+◌, ◌-◌, ◌<◌, ◌≤◌, Bool, true, false, ltb, List, length, get_or, take, drop, Some, None, Ok, Err, Option, Result, sym, refl, ap, ◌∙◌, subst, arith, get_or-take, le-ltb, lt-ltb}
+use Rattle.std.proofs.Common.{◌≡◌, ℕ, ◌+◌, ◌-◌, ◌<◌, ◌≤◌, Bool, ltb, List, length, get_or, take, drop, None, Ok, Err, Option, Result, ap, ◌∙◌, arith, get_or-take, le-ltb, lt-ltb}
 use Rattle.feeder.specs.declared.section.Figures.{Figures}
 use Rattle.feeder.specs.declared.section.Section.{Section}
 use Rattle.feeder.specs.Feeder.{blank, figures}

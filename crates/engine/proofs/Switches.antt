@@ -1,5 +1,5 @@
 -- A fit that is accepted gives one more switch. Assumes nothing.
-use Rattle.std.proofs.Common.{◌≡◌, ℕ, ◌<◌, Bool, false, eqb, leb, List, [], ◌∷◌, ◌++◌, set, None, Option, sym, refl, ap, ◌∙◌, subst, arith, ne_eqb, leb-false}
+use Rattle.std.proofs.Common.{◌≡◌, ℕ, ◌<◌, Bool, false, eqb, leb, [], ◌∷◌, ◌++◌, set, None, Option, sym, refl, ap, ◌∙◌, arith, ne_eqb, leb-false}
 use borrow.Author.Tests.{eqb-false, lt-leb}
 use Rattle.feeder.specs.Feeder.{Feeder, size, at, cut, fitted, switched}
 use Rattle.sweeps.specs.Lists.{feeder}
@@ -9,7 +9,7 @@ use Rattle.lines.specs.declared.change.Change.TheVariants.{Fit}
 use Rattle.engine.specs.declared.journal.Call.{Call}
 use Rattle.engine.specs.declared.journal.Put.{Put}
 use Rattle.engine.specs.Changes.{after, unless, answer, first, short, judged}
-use Rattle.engine.specs.Logs.{Entry, changed, Log, changes, naming, Same}
+use Rattle.engine.specs.Logs.{Entry, changed, naming}
 use Rattle.engine.specs.Laws.{Switched, FitSwitches}
 use Rattle.engine.specs.Questions.{untried}
 use Rattle.engine.proofs.Apart.{first_head, first_tail, order_apart}

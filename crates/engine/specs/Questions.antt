@@ -1,5 +1,5 @@
 -- The answers to questions and trials on a feeder, with the order in which they are refused. Assumes nothing.
-use Rattle.std.specs.Prelude.{◌≡◌, ℕ, ◌+◌, ◌/◌, ◌<◌, List, length, take, drop, Some, None, Ok, Err, Option, Result, MatchResult, ◌==◌, nat_le, nat_lt}
+use Rattle.std.specs.Prelude.{◌≡◌, ℕ, ◌+◌, ◌/◌, List, length, take, drop, Some, None, Ok, Err, Option, Result, MatchResult, ◌==◌, nat_le, nat_lt}
 use Rattle.feeder.specs.Feeder.{Feeder, at, size, figures, fitted}
 use Rattle.feeder.specs.Measure.{Meaning}
 use Rattle.feeder.specs.Totals.{total}

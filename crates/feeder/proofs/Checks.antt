@@ -1,10 +1,10 @@
 -- Sections that pass the tests make a sound feeder. Assumes nothing.
-use Rattle.std.proofs.Common.{◌≡◌, ℕ, zero, suc, ◌<◌, ◌≤◌, Bool, true, false, not, ◌&&◌, ◌||◌, eqb, ltb, leb, List, length, Some, None, Option, sym, refl, ap, ◌∙◌, subst, not-suc-le-zero, arith}
+use Rattle.std.proofs.Common.{◌≡◌, ℕ, zero, suc, ◌<◌, ◌≤◌, Bool, true, false, ◌||◌, eqb, ltb, leb, List, length, Some, None, Option, sym, refl, not-suc-le-zero, arith}
 use Rattle.std.proofs.lemmas.Bool.Decides.{nat_tests}
 use Rattle.std.proofs.lemmas.Bool.{and_parts, leb-true, ltb-true, eqb-true, true≢false}
 use Rattle.feeder.specs.declared.section.Figures.{Figures}
 use Rattle.feeder.specs.declared.section.Section.{Section}
-use Rattle.feeder.specs.Feeder.{Feeder, Sound, Ranges, at, cut, figures}
+use Rattle.feeder.specs.Feeder.{Sound, cut}
 use Rattle.feeder.specs.Checked.{placed, in_range, repair_fine, name_fine, AllFine}
 
 placed_root : (o : Option ℕ) (b : Bool) → placed 0 o b ≡ true → (o ≡ None) × (b ≡ false)

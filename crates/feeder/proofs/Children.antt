@@ -1,15 +1,15 @@
 -- What is held, by the children: the downward sweep from end to end. Assumes nothing.
-use Rattle.std.proofs.Common.{◌≡◌, ℕ, zero, suc, ◌+◌, ◌-◌, ◌<◌, ◌≤◌, Bool, true, false, cond, not, ◌&&◌, ◌||◌, eqb, ltb, leb, sym, refl, ap, ◌∙◌, subst, ⊎_elim, le_refl, add-one, arith}
+use Rattle.std.proofs.Common.{◌≡◌, ℕ, zero, suc, ◌+◌, ◌-◌, ◌<◌, Bool, true, false, cond, not, ◌&&◌, ◌||◌, eqb, leb, sym, refl, ap, ◌∙◌, subst, ⊎_elim, add-one, arith}
 use mathlib.Core.Bool.{and-false}
-use Rattle.std.proofs.lemmas.Bool.{cases_eq, eq-eqb, ne_eqb, lt-leb, le-leb, true≢false}
+use Rattle.std.proofs.lemmas.Bool.{cases_eq, eq-eqb, ne_eqb, lt-leb}
 use Rattle.std.proofs.lemmas.Bool.Decides.{nat_tests}
 use Rattle.feeder.proofs.Joins.{over_same, over_only, over_either, over_nothing, unit_right}
 use Rattle.feeder.proofs.Totals.{down}
-use Rattle.feeder.specs.Feeder.{Feeder, Sound, up, cut, size, figures}
+use Rattle.feeder.specs.Feeder.{Feeder, Sound, up, cut, size}
 use Rattle.feeder.specs.Measure.{Meaning, Lawful}
-use Rattle.feeder.specs.Totals.{join_over, over, when, extra_part}
+use Rattle.feeder.specs.Totals.{over, when, extra_part}
 use Rattle.feeder.specs.Flows.{held, stage, open_child}
-use Rattle.feeder.specs.Laws.{ChildrenLaw, Downward}
+use Rattle.feeder.specs.Laws.{Downward}
 
 -- one place more
 next_place : (i c : ℕ) (t : Bool) → (leb i c && t) ≡ ((leb (suc i) c && t) || (eqb c i && t))

@@ -1,7 +1,7 @@
 -- Laws of `join_over`, over any joining. Assumes nothing.
-use Rattle.std.proofs.Common.{◌≡◌, ℕ, zero, suc, ◌<◌, ◌≤◌, Bool, true, false, cond, not, ◌&&◌, ◌||◌, eqb, ◌⊎◌, sym, refl, ap, ◌∙◌, ap₂, inl, inr, ⊎_elim, le_refl, not-suc-le-zero, arith}
-use Rattle.std.proofs.lemmas.Bool.{eqb-true, eqb-false, eq-eqb, ne_eqb, cases_order, true≢false, cond-true, cond-false}
-use Rattle.feeder.proofs.Bools.{eqb_self, eqb_lt, eqb_gt}
+use Rattle.std.proofs.Common.{◌≡◌, ℕ, zero, suc, ◌<◌, Bool, true, false, cond, ◌||◌, eqb, sym, refl, ap, ◌∙◌, ap₂, ⊎_elim, le_refl, not-suc-le-zero, arith}
+use Rattle.std.proofs.lemmas.Bool.{eq-eqb, cases_order, true≢false, cond-true, cond-false}
+use Rattle.feeder.proofs.Bools.{eqb_lt, eqb_gt}
 use Rattle.feeder.specs.Measure.{Joining}
 use Rattle.feeder.specs.Totals.{join_over}
 

@@ -1,5 +1,5 @@
 -- Sums of numbers, capped and plain. Assumes nothing.
-use Rattle.std.proofs.Common.{◌≡◌, ℕ, zero, suc, ◌+◌, ◌-◌, ◌*◌, ◌^◌, ◌<◌, ◌≤◌, min, Bool, true, false, cond, not, ◌&&◌, sym, refl, ap, ◌∙◌, ap₂, le_refl, mul_comm, mul-zero, mul-add, arith}
+use Rattle.std.proofs.Common.{◌≡◌, ℕ, zero, suc, ◌+◌, ◌-◌, ◌*◌, ◌^◌, ◌<◌, ◌≤◌, min, Bool, true, false, cond, not, ◌&&◌, sym, refl, ap, ◌∙◌, le_refl, mul-zero, mul-add, arith}
 use Rattle.std.proofs.lemmas.Bool.{true≢false}
 use Rattle.feeder.proofs.Joins.{over_same, over_join}
 use Rattle.feeder.specs.Measure.{Joining, Meaning}

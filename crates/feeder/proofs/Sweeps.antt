@@ -1,7 +1,7 @@
 -- The two sweeps, and one more switch, over any tree and any joining. Assumes nothing.
-use Rattle.std.proofs.Common.{◌≡◌, ℕ, zero, suc, ◌<◌, ◌≤◌, Bool, true, false, cond, not, ◌&&◌, ◌||◌, eqb, ltb, ◌⊎◌, sym, refl, ap, ◌∙◌, subst, inl, inr, ⊎_elim, le_refl, arith}
-use mathlib.Core.Bool.{and-false, or-false}
-use Rattle.std.proofs.lemmas.Bool.{eq-eqb, cases_Bool, cases_order, true≢false}
+use Rattle.std.proofs.Common.{◌≡◌, ℕ, suc, ◌<◌, ◌≤◌, Bool, true, false, cond, not, ◌&&◌, ◌||◌, eqb, sym, refl, ap, ◌∙◌, ⊎_elim, le_refl, arith}
+use mathlib.Core.Bool.{or-false}
+use Rattle.std.proofs.lemmas.Bool.{cases_Bool, cases_order, true≢false}
 use Rattle.feeder.proofs.Bools.{eqb_self}
 use Rattle.feeder.proofs.Joins.{over_same, over_join, over_only, over_either, over_given, unit_right}
 use Rattle.feeder.proofs.Trees.{from_under, from_above, drains_agree, drains_open, drains_stopped, drains_once, near_root, near_bare, near_cut, near_apart, head_mark, headed_mark, below_head, below_trans}

@@ -1,17 +1,17 @@
 -- The theorems of `specs/Laws`. Assumes nothing.
-use Rattle.std.proofs.Common.{◌≡◌, ℕ, zero, suc, ◌+◌, ◌<◌, ◌≤◌, min, Bool, true, false, cond, not, ◌&&◌, ◌||◌, eqb, sym, refl, ap, ◌∙◌, subst, not-suc-le-zero, add-one, arith}
+use Rattle.std.proofs.Common.{◌≡◌, ℕ, zero, suc, ◌<◌, ◌≤◌, min, Bool, true, false, cond, not, ◌&&◌, eqb, sym, ap, ◌∙◌, not-suc-le-zero, add-one, arith}
 use Rattle.std.proofs.lemmas.Bool.{ne_eqb, cond-false}
 use Rattle.feeder.proofs.Trees as trees
 use Rattle.feeder.proofs.Sweeps as sweeps
 use Rattle.feeder.proofs.Feeders.{up_falls, size_fitted, figures_fitted, up_fitted, cut_fitted}
 use Rattle.feeder.specs.declared.section.Figures.{Figures}
-use Rattle.feeder.specs.Tree.{below, head, drains, near, mark, Falls}
+use Rattle.feeder.specs.Tree.{below, head, near, mark, Falls}
 use Rattle.feeder.specs.Feeder.{Feeder, Sound, up, cut, size, figures, fitted}
 use Rattle.feeder.specs.Measure.{Meaning, Lawful}
 use Rattle.feeder.specs.Totals.{join_over, extra_part, far_effect, near_effect, total, far_total}
-use Rattle.feeder.specs.Flows.{held, flow, stage}
+use Rattle.feeder.specs.Flows.{held, stage}
 use Rattle.feeder.specs.Trials.{headed, spared}
-use Rattle.feeder.specs.Laws.{TreeLaw, DownwardLaw, UpwardLaw, SparedLaw, Downward, Upward, Spared}
+use Rattle.feeder.specs.Laws.{TreeLaw, SparedLaw, Downward, Upward, Spared}
 
 -- a law at every section but 0, from the law at a successor
 positive : (P : ℕ → Type 0) → ((k : ℕ) → P (suc k)) → (k : ℕ) → 0 < k → P k

@@ -1,7 +1,7 @@
 -- Lemmas on the tree. Assumes nothing.
-use Rattle.std.proofs.Common.{◌≡◌, ℕ, zero, suc, ◌<◌, ◌≤◌, Bool, true, false, cond, not, ◌&&◌, ◌||◌, eqb, ltb, ◌⊎◌, sym, refl, ap, ◌∙◌, subst, inl, inr, ⊎_elim, le_refl, not-suc-le-zero, arith}
+use Rattle.std.proofs.Common.{◌≡◌, ℕ, zero, suc, ◌<◌, ◌≤◌, Bool, true, false, cond, not, ◌&&◌, ◌||◌, eqb, ◌⊎◌, sym, refl, ap, ◌∙◌, subst, inl, inr, ⊎_elim, le_refl, not-suc-le-zero, arith}
 use mathlib.Core.Bool.{or-false, and-false, and-true, or_comm}
-use Rattle.std.proofs.lemmas.Bool.{eqb-true, eqb-false, eq-eqb, ne_eqb, lt-ltb, le-ltb, cases_Bool, true≢false, or_cases, or_right, or_from, and_parts, and_right, not-true, cond-true, cond-false, cases_order, cases_eq}
+use Rattle.std.proofs.lemmas.Bool.{eqb-true, eq-eqb, ne_eqb, lt-ltb, le-ltb, cases_Bool, true≢false, or_cases, or_right, or_from, and_parts, and_right, cond-true, cond-false, cases_order}
 use Rattle.feeder.proofs.Bools.{eqb_self, eqb_lt, eqb_gt, eqb_swap, open_edge}
 use Rattle.feeder.specs.Tree.{climb, ascend, below, head, drains, near, mark, from, Falls}
 

@@ -1,5 +1,5 @@
 -- The theorem on weighted sums. Assumes nothing.
-use Rattle.std.proofs.Common.{◌≡◌, ℕ, zero, suc, ◌+◌, ◌-◌, ◌*◌, ◌^◌, ◌<◌, ◌≤◌, min, Bool, true, false, cond, not, ◌&&◌, ◌||◌, sym, refl, ap, ◌∙◌, subst, mul_comm, mul-le-mul, mul-zero, mul-add, arith}
+use Rattle.std.proofs.Common.{◌≡◌, ℕ, ◌+◌, ◌*◌, ◌^◌, ◌<◌, ◌≤◌, Bool, true, false, cond, not, ◌&&◌, sym, refl, ap, ◌∙◌, mul_comm, mul-le-mul, mul-zero, mul-add, arith}
 use Rattle.std.proofs.lemmas.Bool.{cond_both}
 use Rattle.feeder.proofs.Joins.{over_same, over_join}
 use Rattle.feeder.proofs.Numbers.{plus, over_capped, sum_le, sum_times, sum_minus}

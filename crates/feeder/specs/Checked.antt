@@ -1,5 +1,5 @@
 -- Soundness as tests on single sections: the form that a struct's invariant takes. Assumes nothing.
-use Rattle.std.specs.Prelude.{◌≡◌, ℕ, zero, suc, ◌%◌, ◌<◌, ◌≤◌, Bool, true, false, not, ◌&&◌, ◌||◌, List, length, Some, None, Option, ◌==◌, nat_le, nat_lt, slice_index_or}
+use Rattle.std.specs.Prelude.{◌≡◌, ℕ, zero, suc, ◌%◌, ◌<◌, Bool, true, false, not, ◌&&◌, ◌||◌, List, length, Some, None, Option, ◌==◌, nat_le, nat_lt, slice_index_or}
 use Rattle.feeder.specs.declared.section.Figures.{Figures}
 use Rattle.feeder.specs.declared.section.Section.{Section}
 use Rattle.feeder.specs.Feeder.{blank}

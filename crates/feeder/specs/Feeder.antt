@@ -1,5 +1,5 @@
 -- A feeder: its sections in the order of their numbers, and the switching time in minutes. Assumes nothing.
-use Rattle.std.specs.Prelude.{◌≡◌, ℕ, ◌%◌, ◌<◌, ◌≤◌, Bool, true, false, List, length, set, Some, None, Option, slice_index_or, slice_set}
+use Rattle.std.specs.Prelude.{◌≡◌, ℕ, ◌%◌, ◌<◌, ◌≤◌, Bool, true, false, List, length, Some, None, Option, slice_index_or, slice_set}
 use Rattle.feeder.specs.declared.section.Figures.{Figures}
 use Rattle.feeder.specs.declared.section.Section.{Section}
 

@@ -1,5 +1,5 @@
 -- The theorems. Assumes nothing.
-use Rattle.std.specs.Prelude.{◌≡◌, ℕ, ◌+◌, ◌*◌, ◌^◌, ◌<◌, ◌≤◌, Bool, true, false, cond, not, ◌&&◌, ◌||◌, ◌==◌, ◌≢◌}
+use Rattle.std.specs.Prelude.{◌≡◌, ℕ, ◌+◌, ◌*◌, ◌^◌, ◌<◌, ◌≤◌, true, false, cond, not, ◌&&◌, ◌||◌, ◌==◌, ◌≢◌}
 use Rattle.feeder.specs.Tree.{below, head, drains, near}
 use Rattle.feeder.specs.Feeder.{Feeder, Sound, up, cut, size, fitted}
 use Rattle.feeder.specs.Measure.{Meaning, Lawful}

@@ -1,5 +1,5 @@
 -- One place more of a list of changes. Assumes nothing.
-use Rattle.std.proofs.Common.{◌≡◌, ℕ, ◌+◌, ◌<◌, ◌≤◌, Bool, true, false, cond, ◌&&◌, eqb, leb, List, [], ◌∷◌, length, get_or, drop, sym, refl, ap, ◌∙◌, add-one, drop-cons, eq-eqb, ne_eqb, leb-false, leb-true}
+use Rattle.std.proofs.Common.{◌≡◌, ℕ, ◌+◌, ◌<◌, ◌≤◌, Bool, true, false, cond, ◌&&◌, leb, List, [], ◌∷◌, length, get_or, drop, sym, refl, ap, ◌∙◌, add-one, drop-cons, eq-eqb, ne_eqb, leb-false, leb-true}
 use Rattle.std.proofs.lemmas.List.{drop_all}
 use Rattle.engine.specs.declared.journal.Put.{Put}
 use Rattle.engine.specs.Changes.{named}

@@ -1,13 +1,9 @@
 -- Lists of changes that agree at each section that is named agree at every section. Assumes nothing.
-use Rattle.std.proofs.Common.{◌≡◌, ℕ, suc, ◌+◌, ◌<◌, Bool, true, false, cond, ◌&&◌, eqb, ◌⊎◌, List, [], ◌∷◌, length, get_or, sym, refl, ap, ◌∙◌, subst, inl, inr, arith, eq-eqb, eqb-true}
-use Rattle.lines.specs.declared.change.Change.{Change}
-use Rattle.lines.specs.declared.change.Change.TheVariants.{Fit, Unfit, Set}
-use Rattle.engine.specs.declared.journal.Call.{Call}
-use Rattle.engine.specs.declared.journal.Call.TheVariants.{Direct, Console}
+use Rattle.std.proofs.Common.{◌≡◌, ℕ, suc, ◌<◌, Bool, true, false, cond, eqb, ◌⊎◌, List, [], ◌∷◌, length, get_or, sym, refl, ap, ◌∙◌, subst, inl, inr, arith, eqb-true}
 use Rattle.engine.specs.declared.journal.Put.{Put}
 use Rattle.engine.specs.Changes.{named}
 use Rattle.engine.specs.Logs.{naming, Same}
-use Rattle.journal.specs.Compared.{call_eqb, change_eqb, put_eqb}
+use Rattle.journal.specs.Compared.{put_eqb}
 use Rattle.journal.proofs.Tests.{put_eq, put_refl, and_left, and_right, both_true}
 use Rattle.engine.proofs.Apart.{order_apart}
 use Rattle.journal.specs.Compared.{no_put, listb, Settles}

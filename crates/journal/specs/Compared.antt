@@ -7,7 +7,7 @@ use Rattle.engine.specs.declared.journal.Call.{Call}
 use Rattle.engine.specs.declared.journal.Call.TheVariants.{Direct, Console}
 use Rattle.engine.specs.declared.journal.Put.{Put}
 use Rattle.engine.specs.Changes.{named, direct}
-use Rattle.engine.specs.Logs.{Entry, Log, changes, naming, Same, Agree}
+use Rattle.engine.specs.Logs.{Entry, Log, changes, naming, Agree}
 
 -- tests of equality
 abbrev pub call_eqb : Call → Call → Bool

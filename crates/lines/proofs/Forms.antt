@@ -2,8 +2,6 @@
 use Rattle.std.proofs.Common.{◌≡◌, ℕ, ◌<◌, List, [], ◌∷◌, length, get_or, Some, None, Option, sym, refl, ap, subst, arith}
 use Rattle.std.specs.List.{between}
 use Rattle.std.proofs.lemmas.Slice.{first_rest}
-use Rattle.lines.specs.declared.change.Change.{Change}
-use Rattle.lines.specs.declared.question.Question.{Question}
 use Rattle.lines.specs.declared.line.Line.{Line}
 use Rattle.lines.specs.declared.change.Change.TheVariants.{Fit, Unfit, Set}
 use Rattle.lines.specs.declared.question.Question.TheVariants.{Minutes, Count, Longest, Trial, Indices}

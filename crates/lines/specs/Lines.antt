@@ -1,8 +1,6 @@
 -- The bytes of a line: its letter, then each of its numbers after one space.
 use Rattle.std.specs.Prelude.{◌≡◌, ℕ, ◌^◌, ◌<◌, List, [], ◌∷◌, ◌++◌, length, Some, decimal, Option, MatchOption}
 use Rattle.std.specs.List.{AllByRecursion}
-use Rattle.lines.specs.declared.change.Change.{Change}
-use Rattle.lines.specs.declared.question.Question.{Question}
 use Rattle.lines.specs.declared.line.Line.{Line}
 use Rattle.lines.specs.declared.change.Change.TheVariants.{Fit, Unfit, Set}
 use Rattle.lines.specs.declared.question.Question.TheVariants.{Minutes, Count, Longest, Trial, Indices}

@@ -1,7 +1,6 @@
 -- Capped numbers, and the meanings of Minutes and Count.
-use Rattle.std.specs.Prelude.{ℕ, ◌+◌, ◌-◌, ◌*◌, ◌^◌, ◌<◌, ◌≤◌, min}
+use Rattle.std.specs.Prelude.{ℕ, ◌+◌, ◌-◌, ◌*◌, ◌^◌, min}
 use Rattle.std.proofs.Common.{arith}
-use Rattle.feeder.specs.declared.section.Figures.{Figures}
 use Rattle.measures.specs.declared.capped.Capped.{Capped}
 use Rattle.feeder.specs.Measure.{Meaning}
 

@@ -1,6 +1,6 @@
 -- Equality of capped numbers, and the laws of Minutes and Count.
 use Rattle.std.specs.Prelude.{◌≡◌, ℕ, ◌+◌, ◌-◌, ◌*◌, ◌^◌, ◌<◌, ◌≤◌, min, refl}
-use Rattle.std.proofs.Common.{ap, subst, sym, ◌∙◌, arith, mul-le-mul, mul-le-mul_left}
+use Rattle.std.proofs.Common.{ap, subst, arith, mul-le-mul, mul-le-mul_left}
 use Rattle.std.proofs.Math.Bridge.{le_prop}
 use Rattle.feeder.specs.declared.section.Figures.{Figures}
 use Rattle.feeder.specs.Feeder.{Ranges}

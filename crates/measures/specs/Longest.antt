@@ -1,5 +1,5 @@
 -- The meaning of Longest.
-use Rattle.std.specs.Prelude.{ℕ, min, max, Bool, true, false, cond, ◌&&◌, ◌||◌, Some, None, Option, ◌==◌, nat_lt}
+use Rattle.std.specs.Prelude.{ℕ, min, max, cond, Some, None, Option, ◌==◌, nat_lt}
 use Rattle.feeder.specs.declared.section.Figures.{Figures}
 use Rattle.measures.specs.declared.outage.Outage.{Outage}
 use Rattle.feeder.specs.Measure.{Meaning}

@@ -1,11 +1,10 @@
 -- A whole session is a log, so the order of changes at different sections does not matter. Assumes nothing.
-use Rattle.std.proofs.Common.{◌≡◌, ℕ, List, [], ◌∷◌, ◌++◌, length, take, Some, None, Ok, Option, sym, refl, ap, ◌∙◌, subst, ap₂, arith}
+use Rattle.std.proofs.Common.{ℕ, List, [], ◌∷◌, ◌++◌, length, Some, None, Ok, Option, sym, refl, ap, ◌∙◌, ap₂, arith}
 use Rattle.std.proofs.lemmas.List.{take_all}
 use Rattle.feeder.specs.Feeder.{Feeder}
 use Rattle.lines.specs.declared.line.Line.{Line}
 use Rattle.lines.specs.declared.line.Line.TheVariants as line
 use Rattle.lines.specs.Answers.{answer_text}
-use Rattle.lines.specs.Lines.{Reads}
 use Rattle.stream.specs.Streams.{last_line}
 use Rattle.engine.specs.Changes.{judged, direct, wrote}
 use Rattle.engine.specs.Logs.{Step, Run}

@@ -1,16 +1,13 @@
 -- A session, line by line. Assumes nothing.
-use Rattle.std.proofs.Common.{◌≡◌, ℕ, ◌+◌, ◌<◌, ◌≤◌, List, [], ◌∷◌, ◌++◌, length, take, drop, replicate, Some, None, Ok, Option, Result, sym, refl, ap, ◌∙◌, subst, ap₂, append_assoc, append-nil, arith, length-take, drop-drop}
-use lib.ListN.{length-replicate}
+use Rattle.std.proofs.Common.{◌≡◌, ℕ, ◌+◌, ◌<◌, ◌≤◌, List, [], ◌∷◌, ◌++◌, length, take, drop, replicate, Some, None, Ok, Option, sym, refl, ap, ◌∙◌, subst, ap₂, append_assoc, append-nil, arith, length-take, drop-drop}
 use Rattle.std.specs.List.{between}
 use Rattle.std.specs.Option.{option_to_list}
 use Rattle.feeder.specs.Feeder.{Feeder}
-use Rattle.lines.specs.declared.refusal.Refusal.{Refusal}
 use Rattle.lines.specs.declared.line.Line.{Line}
 use Rattle.lines.specs.Answers.{answer_text}
 use Rattle.lines.specs.Lines.{Reads}
 use Rattle.stream.specs.declared.input.Input.{Input}
 use Rattle.stream.specs.declared.input.Input.TheVariants as input
-use Rattle.stream.specs.declared.lines.Lines.{Lines}
 use Rattle.stream.specs.Streams.{held, Fed, Feeds, Ended, Delivers, DeliversAll}
 use Rattle.console.specs.Laws.{Lined}
 use Rattle.console.specs.Replies.{said, moved}

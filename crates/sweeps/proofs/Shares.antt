@@ -1,11 +1,11 @@
 -- Bounds of weighted sums, and a turn of the search for the largest. Assumes nothing.
-use Rattle.std.proofs.Common.{◌≡◌, ℕ, ◌+◌, ◌*◌, ◌^◌, ◌<◌, ◌≤◌, List, length, get_or, sym, refl, ap, ◌∙◌, subst, ap₂, ⊎_elim, mul-le-mul, arith}
+use Rattle.std.proofs.Common.{◌≡◌, ℕ, ◌+◌, ◌*◌, ◌<◌, ◌≤◌, List, length, get_or, ap, ◌∙◌, ap₂, ⊎_elim, mul-le-mul, arith}
 use Rattle.std.proofs.lemmas.List.{get_or_read}
-use Rattle.std.proofs.lemmas.Bool.{cases_eq, cases_lt}
+use Rattle.std.proofs.lemmas.Bool.{cases_eq}
 use Rattle.feeder.specs.Feeder.{Feeder, Sound, size, figures}
 use Rattle.feeder.specs.Measure.{Meaning, Lawful}
 use Rattle.feeder.specs.Totals.{total}
-use Rattle.feeder.specs.Weighed.{Weighs, Weight, Light, sum_over}
+use Rattle.feeder.specs.Weighed.{Weighs, Light, sum_over}
 use Rattle.feeder.proofs.Numbers.{sum_le}
 use Rattle.feeder.proofs.Weights.{total_small}
 use Rattle.sweeps.specs.declared.by.By.{By}

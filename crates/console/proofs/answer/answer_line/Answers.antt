@@ -1,4 +1,4 @@
-use Rattle.std.proofs.Common.{◌≡◌, ℕ, ◌<◌, ◌≤◌, length, Err, sym, refl, ap, ◌∙◌, subst}
+use Rattle.std.proofs.Common.{length, Err, refl, subst}
 use Rattle.feeder.specs.Feeder.{Feeder}
 use Rattle.lines.specs.declared.answer.Answer.{Answer}
 use Rattle.lines.specs.declared.refusal.Refusal.TheVariants.{Short}

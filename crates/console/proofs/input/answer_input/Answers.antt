@@ -1,4 +1,4 @@
-use Rattle.std.proofs.Common.{◌≡◌, ℕ, ◌<◌, List, length, None, sym, refl, ap, ◌∙◌, subst}
+use Rattle.std.proofs.Common.{◌≡◌, ℕ, List, None, refl, ◌∙◌, subst}
 use Rattle.feeder.specs.Feeder.{Feeder}
 use Rattle.lines.specs.Lines.{Reads}
 use Rattle.stream.specs.declared.input.Input.{Input}

@@ -1,4 +1,4 @@
-use Rattle.std.proofs.Common.{◌≡◌, ◌<◌, ◌≤◌, Bool, true, false, List, length, get_or, arith, rules}
+use Rattle.std.proofs.Common.{◌≡◌, ◌<◌, ◌≤◌, true, false, length, get_or, arith, rules}
 use Rattle.journal.specs.Compared.{put_eqb}
 use Rattle.journal.specs.Compared.{no_put}
 use Rattle.journal.proofs.Places.{at_next, end_first, end_second, differ, agree}

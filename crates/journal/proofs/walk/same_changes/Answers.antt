@@ -1,4 +1,4 @@
-use Rattle.std.proofs.Common.{◌≡◌, ℕ, true, false, sym, arith, rules}
+use Rattle.std.proofs.Common.{◌≡◌, ℕ, true, false, arith, rules}
 use Rattle.engine.specs.Logs.{Same}
 use Rattle.journal.proofs.Whole.{whole, settled, not_same}
 use Rattle.journal.proofs.walk.same_changes.Goals as goal

@@ -1,4 +1,4 @@
-use Rattle.std.proofs.Common.{ℕ, ◌+◌, ◌-◌, ◌≤◌, length, arith}
+use Rattle.std.proofs.Common.{◌-◌, ◌≤◌, length, arith}
 use Rattle.session.proofs.Parts.{front_behind, rest_behind}
 use Rattle.session.proofs.reply.reply.Goals as goal
 

@@ -1,4 +1,4 @@
-use Rattle.std.proofs.Common.{ℕ, ◌≤◌, length, length-take-le, arith}
+use Rattle.std.proofs.Common.{length-take-le, arith}
 use Rattle.feeder.specs.Feeder.{Feeder}
 use Rattle.engine.specs.Studies.{feeder_of}
 use Rattle.session.proofs.Parts.{behind_front}

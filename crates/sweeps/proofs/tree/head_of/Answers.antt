@@ -1,8 +1,7 @@
-use Rattle.std.proofs.Common.{◌≡◌, sym, ap, ◌∙◌, arith}
+use Rattle.std.proofs.Common.{sym, ap, ◌∙◌, arith}
 use Rattle.feeder.specs.Feeder.{Feeder, up, cut}
 use Rattle.feeder.specs.Tree.{head}
 use Rattle.sweeps.specs.Lists.{feeder}
-use Rattle.feeder.specs.Laws.{TreeEquations}
 use Rattle.sweeps.proofs.Steps.{parent_some, parent_none, head_here, head_above, T}
 use Rattle.sweeps.proofs.tree.head_of.Goals as goal
 

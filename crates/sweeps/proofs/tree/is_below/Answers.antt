@@ -1,6 +1,5 @@
-use Rattle.std.proofs.Common.{◌≡◌, false, sym, ap, ◌∙◌, arith}
+use Rattle.std.proofs.Common.{◌∙◌, arith}
 use Rattle.feeder.specs.Feeder.{Feeder}
-use Rattle.std.proofs.lemmas.List.{get_or_read}
 use Rattle.sweeps.specs.Lists.{feeder}
 use Rattle.sweeps.proofs.Steps.{parent_some, parent_none, below_here, below_above, below_none}
 use Rattle.sweeps.proofs.tree.is_below.Goals as goal

@@ -1,4 +1,4 @@
-use Rattle.std.proofs.Common.{◌≡◌, ℕ, false, cond}
+use Rattle.std.proofs.Common.{◌≡◌, false, cond}
 use Rattle.feeder.specs.Feeder.{up, figures}
 use Rattle.feeder.specs.Tree.{below}
 use Rattle.feeder.specs.Weighed.{sum_over}

@@ -1,4 +1,4 @@
-use Rattle.std.proofs.Common.{◌≡◌, ℕ, ◌-◌, ap, ◌∙◌, ap₂, arith}
+use Rattle.std.proofs.Common.{◌-◌, ap, ◌∙◌, ap₂, arith}
 use Rattle.feeder.specs.Feeder.{Feeder}
 use Rattle.feeder.specs.Weighed.{weight_below, shielded}
 use Rattle.feeder.proofs.Weights.{shields}

@@ -1,4 +1,4 @@
-use Rattle.std.proofs.Common.{◌≡◌, cond, length, sym, ap, ◌∙◌, arith, rules}
+use Rattle.std.proofs.Common.{length, sym, ◌∙◌, rules}
 use Rattle.std.proofs.lemmas.List.{get_or_read, places}
 use Rattle.std.proofs.lemmas.Bool.{cond-true, cond-false}
 use Rattle.feeder.specs.Feeder.{Feeder, cut}

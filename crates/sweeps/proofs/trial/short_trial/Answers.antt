@@ -1,4 +1,4 @@
-use Rattle.std.proofs.Common.{◌≡◌, ℕ, ◌+◌, ◌*◌, ◌≤◌, sym, ap, ◌∙◌, ap₂, mul-le-mul, arith}
+use Rattle.std.proofs.Common.{◌+◌, ◌*◌, ◌≤◌, sym, ap, ◌∙◌, ap₂, mul-le-mul, arith}
 use Rattle.feeder.specs.Feeder.{Feeder, fitted}
 use Rattle.feeder.specs.Weighed.{weighted_sum}
 use Rattle.feeder.proofs.Weights.{flow_small, weighed_at}

@@ -1,4 +1,4 @@
-use Rattle.std.proofs.Common.{◌≡◌, ℕ, suc, ◌+◌, length, sym, ap, ◌∙◌, add-one, arith}
+use Rattle.std.proofs.Common.{◌≡◌, length, ap, ◌∙◌, add-one, arith}
 use Rattle.feeder.specs.Totals.{join_over, far_total, far_effect}
 use Rattle.sweeps.specs.Lists.{feeder}
 use Rattle.sweeps.proofs.up.far_total.Goals as goal

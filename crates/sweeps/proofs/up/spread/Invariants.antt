@@ -1,4 +1,3 @@
-use Rattle.std.proofs.Common.{◌≤◌, length}
 use Rattle.sweeps.specs.Lists.{feeder}
 use Rattle.sweeps.proofs.Turns.{Risen}
 use Rattle.sweeps.proofs.up.spread.Given as goal

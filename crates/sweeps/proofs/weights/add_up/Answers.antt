@@ -1,7 +1,5 @@
-use Rattle.std.proofs.Common.{◌≡◌, ℕ, ◌+◌, ◌*◌, ◌<◌, ◌≤◌, length, get_or, sym, refl, ap, ◌∙◌, ap₂, add-one, arith, rules}
-use Rattle.std.proofs.lemmas.List.{get_or_read}
+use Rattle.std.proofs.Common.{◌≡◌, ℕ, ◌+◌, ◌*◌, length, sym, refl, ap, ◌∙◌, ap₂, add-one, arith}
 use Rattle.feeder.specs.Feeder.{Feeder, figures}
-use Rattle.feeder.specs.Measure.{Meaning}
 use Rattle.feeder.specs.Totals.{join_over, total}
 use Rattle.feeder.specs.Weighed.{sum_over, weighted_sum}
 use Rattle.sweeps.specs.Lists.{feeder}

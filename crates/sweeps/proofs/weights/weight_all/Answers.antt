@@ -1,7 +1,6 @@
-use Rattle.std.proofs.Common.{◌≡◌, ℕ, ◌+◌, sym, refl, ap, ◌∙◌, ap₂, arith}
+use Rattle.std.proofs.Common.{ℕ, ◌+◌, sym, refl, ◌∙◌, ap₂, arith}
 use Rattle.feeder.specs.Feeder.{Feeder, figures}
 use Rattle.feeder.specs.Totals.{join_over}
-use Rattle.feeder.proofs.Numbers.{sum_le}
 use Rattle.sweeps.specs.Lists.{feeder}
 use Rattle.sweeps.specs.Weights.{weight_of}
 use Rattle.sweeps.proofs.Shares.{light, weights_small}

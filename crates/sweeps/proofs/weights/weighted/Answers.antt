@@ -1,4 +1,4 @@
-use Rattle.std.proofs.Common.{◌≡◌, ◌^◌, ◌≤◌, length, arith, rules}
+use Rattle.std.proofs.Common.{length, arith, rules}
 use Rattle.std.proofs.lemmas.List.{places}
 use Rattle.feeder.specs.Totals.{total}
 use Rattle.feeder.proofs.Weights.{weighed_at}

@@ -1,4 +1,4 @@
-use Rattle.std.proofs.Common.{◌≡◌, ℕ, length, get_or, ap}
+use Rattle.std.proofs.Common.{ℕ, length, ap}
 use Rattle.feeder.specs.Totals.{total}
 use Rattle.sweeps.specs.Lists.{feeder}
 use Rattle.sweeps.proofs.Turns.{written_holds}

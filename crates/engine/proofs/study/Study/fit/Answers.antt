@@ -1,4 +1,4 @@
-use Rattle.std.proofs.Common.{◌≡◌, ℕ, true, get_or, take, set, sym, refl, ap, ◌∙◌, length-set, drop-set-lt}
+use Rattle.std.proofs.Common.{ℕ, true, get_or, take, set, refl, ap, ◌∙◌, length-set, drop-set-lt}
 use Rattle.std.proofs.lemmas.Result.{err_from_is_err_and}
 use Rattle.feeder.specs.Feeder.{Feeder, switched, blank}
 use Rattle.sweeps.specs.Lists.{feeder}

@@ -1,9 +1,9 @@
-use Rattle.std.proofs.Common.{◌≡◌, ℕ, ◌<◌, ◌≤◌, true, Some, None, Ok, Err, sym, ap, ◌∙◌, subst, arith, eq-eqb, ne_eqb}
+use Rattle.std.proofs.Common.{◌≡◌, ◌<◌, Err, sym, ◌∙◌, subst, arith, eq-eqb, ne_eqb}
 use Rattle.feeder.specs.Feeder.{Feeder, size}
 use Rattle.feeder.specs.Measure.{Meaning}
 use Rattle.feeder.specs.Flows.{flow}
 use Rattle.feeder.proofs.Children.{by_children}
-use Rattle.sweeps.specs.Views.{shown, if_there}
+use Rattle.sweeps.specs.Views.{if_there}
 use Rattle.lines.specs.declared.refusal.Refusal.TheVariants.{NoSection, Root}
 use Rattle.engine.specs.Questions.{flow_of}
 use Rattle.engine.specs.Studies.{feeder_of}

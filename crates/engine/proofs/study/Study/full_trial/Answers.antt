@@ -1,4 +1,4 @@
-use Rattle.std.proofs.Common.{◌≡◌, ℕ, Bool, false, List, get_or, take, Err, Option, sym, refl, ap, ◌∙◌, subst, arith, get_or-take}
+use Rattle.std.proofs.Common.{◌≡◌, ℕ, List, take, Err, Option, sym, refl, ap, ◌∙◌, arith, get_or-take}
 use Rattle.std.proofs.lemmas.Result.{err_from_is_err_and}
 use Rattle.feeder.specs.declared.section.Section.{Section}
 use Rattle.feeder.specs.Feeder.{Feeder, size, fitted, cut, blank}

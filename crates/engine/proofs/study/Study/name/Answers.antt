@@ -1,6 +1,6 @@
-use Rattle.std.proofs.Common.{◌≡◌, ℕ, ◌+◌, ◌<◌, ◌≤◌, length, get_or, Ok, Err, sym, ◌∙◌, arith}
+use Rattle.std.proofs.Common.{◌≡◌, ◌+◌, ◌<◌, ◌≤◌, length, get_or, Err, sym, ◌∙◌, arith}
 use Rattle.feeder.specs.declared.section.Figures.{Figures}
-use Rattle.feeder.specs.Feeder.{Feeder, blank}
+use Rattle.feeder.specs.Feeder.{blank}
 use Rattle.lines.specs.declared.refusal.Refusal.TheVariants.{NoSection, NameCut}
 use Rattle.engine.specs.Questions.{name_of}
 use Rattle.engine.specs.Studies.{feeder_of}

@@ -1,4 +1,3 @@
-use Rattle.std.proofs.Common.{◌≡◌}
 use Rattle.engine.specs.Questions.{saidi_of}
 use Rattle.engine.specs.Studies.{feeder_of}
 use Rattle.engine.proofs.Asked.{alike_by}

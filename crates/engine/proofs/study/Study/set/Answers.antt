@@ -1,4 +1,4 @@
-use Rattle.std.proofs.Common.{◌≡◌, ℕ, ◌*◌, ◌<◌, ◌≤◌, length, get_or, Err, sym, refl, ap, ◌∙◌, arith, length-set, drop-set-lt, rules}
+use Rattle.std.proofs.Common.{◌≤◌, get_or, Err, refl, arith, length-set, drop-set-lt, rules}
 use Rattle.feeder.specs.declared.section.Section.{Section}
 use Rattle.feeder.specs.Feeder.{Feeder, blank}
 use Rattle.lines.specs.declared.change.Change.{Change}

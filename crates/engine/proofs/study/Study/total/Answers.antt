@@ -1,4 +1,4 @@
-use Rattle.std.proofs.Common.{◌≡◌, ℕ, ◌<◌, ◌≤◌, true, None, Ok, Err, sym, ap, ◌∙◌, subst, arith, rules, le-leb}
+use Rattle.std.proofs.Common.{◌≡◌, ◌<◌, true, None, Ok, Err, sym, ap, ◌∙◌, arith, rules, le-leb}
 use Rattle.std.proofs.lemmas.List.{get_or_read, places}
 use Rattle.std.proofs.lemmas.Bool.{cond-true}
 use Rattle.feeder.specs.Feeder.{Feeder, size}

@@ -1,4 +1,4 @@
-use Rattle.std.proofs.Common.{◌≡◌, Bool, true, false, cond, leb, List, length, None, Ok, Err, Option, sym, ap, ◌∙◌, subst}
+use Rattle.std.proofs.Common.{◌≡◌, true, false, leb, length, None, Ok, Err, Option, sym, ap, ◌∙◌}
 use Rattle.std.proofs.lemmas.Bool.{cond-true, cond-false}
 use Rattle.feeder.specs.Feeder.{Feeder, size}
 use Rattle.feeder.specs.Measure.{Meaning}

@@ -1,6 +1,5 @@
-use Rattle.std.proofs.Common.{◌≡◌, ℕ, ◌<◌, ◌≤◌, true, false, length, sym, refl, ap, ◌∙◌, arith, length-set, drop-set-lt, eq-eqb}
-use borrow.Author.Tests.{lt-leb}
-use Rattle.feeder.specs.Feeder.{Feeder, size}
+use Rattle.std.proofs.Common.{◌<◌, true, false, refl, ◌∙◌, arith, length-set, drop-set-lt, eq-eqb}
+use Rattle.feeder.specs.Feeder.{Feeder}
 use Rattle.lines.specs.declared.change.Change.TheVariants.{Unfit}
 use Rattle.lines.specs.declared.refusal.Refusal.TheVariants.{NoSection, Root, Clear}
 use Rattle.engine.specs.Changes.{marked}
@@ -9,7 +8,6 @@ use Rattle.engine.proofs.Fines.{fine_take_marked, altered}
 use Rattle.engine.proofs.Judges.{unfit_judged, step_refused, step_done}
 use Rattle.engine.proofs.Logged.{extends}
 use Rattle.engine.proofs.Replies.{past_end, before_end}
-use Rattle.engine.proofs.Sounds.{size_is}
 use Rattle.engine.proofs.study.Study.unfit.Goals as goal
 
 pub returns-then-at-self : goal.returns-then-at-self

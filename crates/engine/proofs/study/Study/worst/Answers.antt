@@ -1,4 +1,4 @@
-use Rattle.std.proofs.Common.{◌≡◌, ℕ, Ok, Err, sym, refl, ap, ◌∙◌, subst}
+use Rattle.std.proofs.Common.{Ok, Err, refl, ◌∙◌, subst}
 use Rattle.feeder.specs.Feeder.{Feeder, size}
 use Rattle.feeder.specs.Measure.{Meaning}
 use Rattle.feeder.specs.Totals.{total}

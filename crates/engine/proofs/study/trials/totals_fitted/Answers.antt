@@ -1,10 +1,10 @@
-use Rattle.std.proofs.Common.{◌≡◌, ℕ, ◌-◌, ◌<◌, ◌≤◌, true, false, leb, List, length, get_or, take, set, Ok, Err, sym, refl, ap, ◌∙◌, subst, arith, length-set, length-take-le}
+use Rattle.std.proofs.Common.{◌≡◌, ℕ, ◌-◌, ◌<◌, ◌≤◌, true, false, leb, List, length, get_or, take, set, Ok, Err, sym, ap, ◌∙◌, subst, arith, length-set, length-take-le}
 use Rattle.std.proofs.lemmas.Bool.{cond-true, cond-false}
 use Rattle.lines.specs.declared.refusal.Refusal.TheVariants.{Short}
 use Rattle.engine.proofs.Judges.{roomy}
 use native.Mathlib.Nat.{sub-zero}
 use Rattle.feeder.specs.declared.section.Section.{Section}
-use Rattle.feeder.specs.Feeder.{Feeder, blank, switched, size, fitted}
+use Rattle.feeder.specs.Feeder.{blank, switched, fitted}
 use Rattle.feeder.specs.Checked.{AllFine}
 use Rattle.feeder.specs.Totals.{total}
 use Rattle.sweeps.specs.Lists.{feeder, written}

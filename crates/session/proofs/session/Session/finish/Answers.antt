@@ -1,4 +1,4 @@
-use Rattle.std.proofs.Common.{◌≡◌, ℕ, ◌+◌, [], ◌++◌, take, drop, sym, refl, ap, ◌∙◌, subst, zero-add, arith}
+use Rattle.std.proofs.Common.{◌≡◌, ℕ, ◌++◌, take, drop, sym, refl, ap, ◌∙◌, subst, zero-add, arith}
 use Rattle.lines.specs.Answers.{answer_text}
 use Rattle.console.specs.Replies.{said}
 use Rattle.feeder.specs.Feeder.{Feeder}
