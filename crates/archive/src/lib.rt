@@ -16,5 +16,3 @@ pub use bytes::BytesFault;
 pub use fault::{Layer, LoadFault, SectionFault};
 pub use load::load_sections;
 pub use record::{Record, RecordFault, read_record};
-
-// What derives and comparisons over these types ask for in another crate.

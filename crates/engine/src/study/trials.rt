@@ -1,5 +1,5 @@
 // Trials of one more switch.
-ghost use Rattle.std.specs.Prelude.{◌≡◌, ℕ, ◌+◌, ◌<◌, ◌≤◌, true, false, length, get_or, take, slice_index_or, slice_set};
+ghost use Rattle.std.specs.Prelude.{◌≡◌, ℕ, ◌+◌, ◌<◌, ◌≤◌, true, false, length, take, slice_index_or, slice_set};
 ghost use Rattle.feeder.specs.Feeder.{blank, fitted};
 ghost use Rattle.feeder.specs.Checked.{AllFine};
 ghost use Rattle.feeder.specs.Totals.{total};
@@ -59,7 +59,7 @@ fn totals_fitted<M: Measure>(
     requires fine { AllFine (take n list.old) }
     requires above { 0 < at }
     requires below { at < n }
-    requires bare { (get_or list.old at blank).switch ≡ false }
+    requires bare { (slice_index_or list.old at blank).switch ≡ false }
     ensures kept { list.new ≡ list.old }
     ensures totals { (result, out.new) ≡ if_room n (total (M.Measure.meaning m.now) (fitted (feeder (take n list.old) switching) at)) out.old }
 {
@@ -93,7 +93,7 @@ impl Lent<'_> {
         requires fine { AllFine (take n self.old.list.now) }
         requires above { 0 < at }
         requires below { at < n }
-        requires bare { (get_or self.old.list.now at blank).switch ≡ false }
+        requires bare { (slice_index_or self.old.list.now at blank).switch ≡ false }
         ensures kept { self.new.list.now ≡ self.old.list.now }
         ensures totals { (result, out.new) ≡ if_room n (total (M.Measure.meaning m.now) (fitted (feeder (take n self.old.list.now) switching) at)) out.old }
     {

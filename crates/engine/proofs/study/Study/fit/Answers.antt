@@ -1,4 +1,4 @@
-use Rattle.std.proofs.Common.{ℕ, true, get_or, take, set, refl, ap, ◌∙◌, length-set, drop-set-lt}
+use Rattle.std.proofs.Common.{ℕ, get_or, take, set, refl, ap, ◌∙◌, length-set, drop-set-lt}
 use Rattle.std.proofs.lemmas.Result.{err_from_is_err_and}
 use Rattle.feeder.specs.Feeder.{Feeder, switched, blank}
 use Rattle.sweeps.specs.Lists.{feeder}
@@ -23,7 +23,7 @@ pub invariant_of-self : goal.invariant_of-self
 invariant_of-self c =
     let s = c.args.self.now in
     let i = index_of s c.args.k c.in_ok-at.at c.in_ok-at.ensures in
-    record { within = simp length-set s.within; few = s.few; low = s.low; high = s.high; fine = fine_take_marked s.lent.list.now s.count _ true s.within i.not_root i.within s.fine }
+    record { within = simp length-set s.within; few = s.few; low = s.low; high = s.high; fine = fine_take_marked s.lent.list.now s.count _ _ s.within i.not_root i.within s.fine }
 
 pub returns : goal.returns
 returns c =

@@ -1,6 +1,6 @@
-use Rattle.std.proofs.Common.{◌≤◌, get_or, Err, refl, arith, length-set, drop-set-lt, rules}
-use Rattle.feeder.specs.declared.section.Section.{Section}
+use Rattle.std.proofs.Common.{ℕ, ◌≤◌, get_or, take, set, Err, refl, arith, length-set, drop-set-lt, rules}
 use Rattle.feeder.specs.Feeder.{Feeder, blank}
+use Rattle.feeder.specs.Checked.{AllFine}
 use Rattle.lines.specs.declared.change.Change.{Change}
 use Rattle.lines.specs.declared.change.Change.TheVariants.{Set}
 use Rattle.lines.specs.declared.refusal.Refusal.TheVariants.{Range, NoSection}
@@ -31,12 +31,13 @@ invariant_of-self c =
     let s = c.args.self.now in
     let a = c.args in
     let xs = s.lent.list.now in
-    let x : Change = Set a.k a.rate a.quarters a.customers a.load in
-    let old : Section = get_or xs a.k blank in
     let least : 1 ≤ a.quarters = omega (arith, c.if-quarters-lt1.false) in
-    let good = fine_refigured a.k old a.rate a.quarters a.customers a.load (fine_at xs s.count a.k s.within c.if-at-self.false s.fine)
-    c.if-rate-gt100000.false least c.if-quarters-gt672.false c.if-customers-gt4000.false c.if-load-gt4000.false in
-    record { within = simp length-set s.within; few = s.few; low = s.low; high = s.high; fine = fine_take xs s.count a.k (touched x old) s.within c.if-at-self.false s.fine good }
+    let was = fine_at xs s.count a.k s.within c.if-at-self.false s.fine in
+    let customers = c.if-customers-gt4000.false in
+    let load = c.if-load-gt4000.false in
+    let in_place : (u l : ℕ) → u ≤ 4000 → l ≤ 4000 → AllFine (take s.count (set xs a.k (touched (Set a.k a.rate a.quarters u l) (get_or xs a.k blank)))) = λ u l p q.
+    fine_take xs s.count a.k _ s.within c.if-at-self.false s.fine (fine_refigured a.k (get_or xs a.k blank) a.rate a.quarters u l was c.if-rate-gt100000.false least c.if-quarters-gt672.false p q) in
+    record { within = simp length-set s.within; few = s.few; low = s.low; high = s.high; fine = search (in_place, customers, load) }
 
 pub returns : goal.returns
 returns c =

@@ -20,7 +20,7 @@ returns-then-at-self g c =
     let s = c.args.self.now in
     let k = c.args.node in
     let μ = g.M.Measure.meaning c.args.m.now in
-    let told : Err NoSection ≡ total_of μ k (feeder_of s) = sym (turned_down _ _ _ (past_end s k None c.if-at-self.true)) in
+    let told : Err NoSection ≡ total_of μ k (feeder_of s) = sym (turned_down _ _ _ (past_end s k None (omega (arith, c.if-at-self.true)))) in
     record { answer = told; alike = alike_by (total_of μ k) _ _ told; spares = switch_spares μ (g.met.M.Measure.lawful c.args.m.now) (feeder_of s) (sound_if s); words = tree }
 
 pub returns : goal.returns
