@@ -22,7 +22,7 @@ fn reply_in_front(study: &mut Study, input: &Input, out: &mut [u8]) -> usize
     }
 }
 
-// Behind the first `used` bytes.
+// Answers one line behind the first `used` bytes of `out`, which stay.
 pub(crate) fn reply(study: &mut Study, input: &Input, out: &mut [u8], used: usize) -> usize
     requires { used + 64 ≤ length out.old }
     ensures replied { Replied input.now out.old used (feeder_of study.old) result out.new (feeder_of study.new) }
