@@ -56,7 +56,7 @@ laid_fine s p n r q x (m, v, h, o, mr, (o1, r1, (o2, r2, (o3, r3, (o4, r4, (o5, 
     (and_from _ _ (repair_of c g.0 g.1)
     (and_from _ _ (le-leb _ _ (read_in (λ y. y ≤ 4000) s (stands m 8) o3 2 _ 0 r.customers o4 (lit≤ tt) r4))
     (and_from _ _ (le-leb _ _ (read_in (λ y. y ≤ 4000) s (stands m 16) o4 2 _ 0 r.load o5 (lit≤ tt) r5))
-    (name_of s (named m) o r.name_at r.name_len q nr))))))
+    (name_of s (named m) o r.name.at r.name.len q nr))))))
 
 records_fine : (s : List ℕ) (k p : ℕ) (xs : List Section) (q : ℕ) → Records s k p xs q → (i : ℕ) → i < length xs → fine (k + i) (get_or xs i blank) ≡ true
 records_fine s k p [] q a i h = absurd (omega (arith, h))

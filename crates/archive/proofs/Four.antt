@@ -27,7 +27,7 @@ unfolding of_bits
 hours_three = (lit≤ tt, lit≤ tt, (refl, refl))
 
 abbrev record_zero : Record
-record_zero = record { parent = None; rate = 100; hours = of_bits binary64 4616189618054758400; customers = 0; load = 30; switch = false; name_at = 0; name_len = 0; at = 4 }
+record_zero = record { parent = None; rate = 100; hours = of_bits binary64 4616189618054758400; customers = 0; load = 30; switch = false; name = record { at = 0; len = 0 }; at = 4 }
 
 is_zero : RecordIs 0 4 record_zero (22 ∷ 0 ∷ 0 ∷ 0 ∷ 100 ∷ 64 ∷ 16 ∷ 0 ∷ 0 ∷ 0 ∷ 0 ∷ 0 ∷ 0 ∷ 0 ∷ 30 ∷ [])
 is_zero = record {
@@ -47,7 +47,7 @@ is_zero = record {
 }
 
 abbrev record_one : Record
-record_one = record { parent = Some 0; rate = 200; hours = of_bits binary64 4611686018427387904; customers = 10; load = 50; switch = false; name_at = 0; name_len = 0; at = 19 }
+record_one = record { parent = Some 0; rate = 200; hours = of_bits binary64 4611686018427387904; customers = 10; load = 50; switch = false; name = record { at = 0; len = 0 }; at = 19 }
 
 is_one : RecordIs 1 19 record_one (26 ∷ 0 ∷ 0 ∷ 0 ∷ 200 ∷ 0 ∷ 10 ∷ 0 ∷ 50 ∷ [])
 is_one = record {
@@ -67,7 +67,7 @@ is_one = record {
 }
 
 abbrev record_two : Record
-record_two = record { parent = Some 1; rate = 300; hours = of_bits binary64 4613937818241073152; customers = 20; load = 80; switch = true; name_at = 0; name_len = 0; at = 28 }
+record_two = record { parent = Some 1; rate = 300; hours = of_bits binary64 4613937818241073152; customers = 20; load = 80; switch = true; name = record { at = 0; len = 0 }; at = 28 }
 
 is_two : RecordIs 2 28 record_two (62 ∷ 0 ∷ 0 ∷ 1 ∷ 44 ∷ 64 ∷ 8 ∷ 0 ∷ 0 ∷ 0 ∷ 0 ∷ 0 ∷ 0 ∷ 0 ∷ 20 ∷ 0 ∷ 80 ∷ [])
 is_two = record {
@@ -87,7 +87,7 @@ is_two = record {
 }
 
 abbrev record_three : Record
-record_three = record { parent = Some 1; rate = 400; hours = of_bits binary64 4604930618986332160; customers = 5; load = 20; switch = false; name_at = 0; name_len = 0; at = 45 }
+record_three = record { parent = Some 1; rate = 400; hours = of_bits binary64 4604930618986332160; customers = 5; load = 20; switch = false; name = record { at = 0; len = 0 }; at = 45 }
 
 is_three : RecordIs 3 45 record_three (31 ∷ 0 ∷ 1 ∷ 0 ∷ 0 ∷ 1 ∷ 144 ∷ 63 ∷ 232 ∷ 0 ∷ 0 ∷ 0 ∷ 0 ∷ 0 ∷ 0 ∷ 0 ∷ 5 ∷ 0 ∷ 20 ∷ [])
 is_three = record {

@@ -1,3 +1,4 @@
+mod Digits
 mod Sits
 mod FieldsOne
 mod RecordSame

@@ -78,9 +78,9 @@ laid_one s p n r q r' q' (m, v, h, o, mr, ra, nr, e1, e2, e3, e4) (m', v', h', o
     let vs = v ∷ r.rate ∷ h ∷ r.customers ∷ r.load ∷ [] in
     let vs' = v' ∷ r'.rate ∷ h' ∷ r'.customers ∷ r'.load ∷ [] in
     let a = read_all_one s n m fields (p + 1) vs o vs' o' ra (subst (λ (y : ℕ). ReadAll s n y fields (p + 1) vs' o') (sym em) ra') in
-    let b = name_one s (named m) o r.name_at r.name_len q r'.name_at r'.name_len q' nr
-    (subst (λ (y : ℕ). NameRead s (named m) y r'.name_at r'.name_len q') (sym a.1)
-    (subst (λ (y : ℕ). NameRead s (named y) o' r'.name_at r'.name_len q') (sym em) nr')) in
+    let b = name_one s (named m) o r.name.at r.name.len q r'.name.at r'.name.len q' nr
+    (subst (λ (y : ℕ). NameRead s (named m) y r'.name.at r'.name.len q') (sym a.1)
+    (subst (λ (y : ℕ). NameRead s (named y) o' r'.name.at r'.name.len q') (sym em) nr')) in
     let at : (i : ℕ) → get_or vs i 0 ≡ get_or vs' i 0 = λ i. ap (λ (ws : List ℕ). get_or ws i 0) a.0 in
     let ep : r.parent ≡ r'.parent = e2 ∙ ap (parent_of n) (at 0) ∙ sym e2' in
     let eh : r.hours ≡ r'.hours = e3 ∙ ap (of_bits binary64) (at 2) ∙ sym e3' in
@@ -89,7 +89,7 @@ laid_one s p n r q r' q' (m, v, h, o, mr, ra, nr, e1, e2, e3, e4) (m', v', h', o
     let er : r.rate ≡ r'.rate = at 1 in
     let ec : r.customers ≡ r'.customers = at 3 in
     let el : r.load ≡ r'.load = at 4 in
-    ((λ j. record { parent = ep j; rate = er j; hours = eh j; customers = ec j; load = el j; switch = es j; name_at = b.0 j; name_len = b.1 j; at = ea j }), b.2)
+    ((λ j. record { parent = ep j; rate = er j; hours = eh j; customers = ec j; load = el j; switch = es j; name = record { at = b.0 j; len = b.1 j }; at = ea j }), b.2)
 
 pub laid_never : (s : List ℕ) (p n : ℕ) (r : Record) (q : ℕ) (f : RecordFault) → Laid s p n r q → Faulty s p n f → ⊥
 laid_never s p n r q f (m, v, h, o, mr, ra, nr, e1, e2, e3, e4) (inl g) = map_never s p n m f mr g
@@ -98,7 +98,7 @@ laid_never s p n r q f (m, v, h, o, mr, ra, nr, e1, e2, e3, e4) (inr (inl (m', m
 laid_never s p n r q f (m, v, h, o, mr, ra, nr, e1, e2, e3, e4) (inr (inr (m', vs', o', mr', ra', g))) =
     let em : m' ≡ m = map_one s p n m' m mr' mr in
     let a = read_all_one s n m fields (p + 1) vs' o' (v ∷ r.rate ∷ h ∷ r.customers ∷ r.load ∷ []) o (subst (λ (y : ℕ). ReadAll s n y fields (p + 1) vs' o') em ra') ra in
-    name_never s (named m) o r.name_at r.name_len q f nr
+    name_never s (named m) o r.name.at r.name.len q f nr
     (subst (λ (y : ℕ). NameRefused s (named m) y f) a.1 (subst (λ (y : ℕ). NameRefused s (named y) o' f) em g))
 
 pub faulty_one : (s : List ℕ) (p n : ℕ) (f f' : RecordFault) → Faulty s p n f → Faulty s p n f' → f ≡ f'

@@ -107,7 +107,7 @@ record_or s p n = elim (map_or s p n) [
       | inr c ↦ inr (c.0, inr (inr (a.0, b.0, b.1, a.1, b.2, c.1)))
       | inl c ↦ (let d = five s n a.0 (p + 1) b.0 b.1 b.2 in
           inl (
-            record { parent = parent_of n d.0; rate = d.1; hours = of_bits binary64 d.2; customers = d.3; load = d.4; switch = marked a.0; name_at = c.0; name_len = c.1; at = p },
+            record { parent = parent_of n d.0; rate = d.1; hours = of_bits binary64 d.2; customers = d.3; load = d.4; switch = marked a.0; name = record { at = c.0; len = c.1 }; at = p },
             c.2,
             (a.0, d.0, d.2, b.1, a.1, d.5, c.3, refl, refl, refl, refl),
           ))

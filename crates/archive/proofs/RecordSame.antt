@@ -116,7 +116,7 @@ pub record_to : (s : List ℕ) (p n : ℕ) (r : Record) (q : ℕ) → Laid s p n
 record_to s p n r q (m, v, h, o, mr, ra, nr, e1, e2, e3, e4) =
     let f = fields_to s n m fields (p + 1) (v ∷ r.rate ∷ h ∷ r.customers ∷ r.load ∷ []) o mr.0 ra in
     let w : o ≤ length s = omega (arith, f.1.0, f.2) in
-    let g = name_to s (named m) o r.name_at r.name_len q w nr in
+    let g = name_to s (named m) o r.name.at r.name.len q w nr in
     let x : Sits s (p + 1 + length f.0) g.0 = subst (λ (y : ℕ). Sits s y g.0) f.2 g.1 in
     let t : Sits s p (m ∷ (f.0 ++ g.0)) = sits_append s p (m ∷ []) (f.0 ++ g.0) (sits_one s p m mr.0 mr.1) (sits_append s (p + 1) f.0 g.0 f.1 x) in
     let l : length (f.0 ++ g.0) ≡ length f.0 + length g.0 = length-append f.0 g.0 in
@@ -133,7 +133,7 @@ record_to s p n r q (m, v, h, o, mr, ra, nr, e1, e2, e3, e4) =
         bytes = refl;
         allowed = mr.2;
         fields_are = f.3;
-        name_is = subst (λ (y : ℕ). NameIs (named m) y r.name_at r.name_len g.0) f.2 g.3;
+        name_is = subst (λ (y : ℕ). NameIs (named m) y r.name.at r.name.len g.0) f.2 g.3;
         place = e1;
         parent_is = e2;
         hours_are = e3;
@@ -157,8 +157,8 @@ record_from s p n r bs t d =
       p + 1 + length fs,
       (a.0, one_is s p m a, d.allowed),
       fields_from s n m fields (p + 1) (d.parent ∷ r.rate ∷ d.hours ∷ r.customers ∷ r.load ∷ []) fs (sits_left s (p + 1) fs d.name b) d.fields_are,
-      subst (λ (y : ℕ). NameRead s (named m) (p + 1 + length fs) r.name_at r.name_len y) z
-          (name_from s (named m) (p + 1 + length fs) r.name_at r.name_len d.name (sits_right s (p + 1) fs d.name b) d.name_is),
+      subst (λ (y : ℕ). NameRead s (named m) (p + 1 + length fs) r.name.at r.name.len y) z
+          (name_from s (named m) (p + 1 + length fs) r.name.at r.name.len d.name (sits_right s (p + 1) fs d.name b) d.name_is),
       d.place,
       d.parent_is,
       d.hours_are,

@@ -14,10 +14,10 @@ four_bytes =
 abbrev pub four_feeder : Feeder
 four_feeder = record {
   sections =
-      record { figures = record { parent = None; rate = 100; repair = 240; customers = 0; load = 30; name_at = 0; name_len = 0 }; switch = false }
-      ∷ record { figures = record { parent = Some 0; rate = 200; repair = 120; customers = 10; load = 50; name_at = 0; name_len = 0 }; switch = false }
-      ∷ record { figures = record { parent = Some 1; rate = 300; repair = 180; customers = 20; load = 80; name_at = 0; name_len = 0 }; switch = true }
-      ∷ record { figures = record { parent = Some 1; rate = 400; repair = 45; customers = 5; load = 20; name_at = 0; name_len = 0 }; switch = false }
+      record { figures = record { parent = None; rate = 100; repair = 240; customers = 0; load = 30; name = record { at = 0; len = 0 } }; switch = false }
+      ∷ record { figures = record { parent = Some 0; rate = 200; repair = 120; customers = 10; load = 50; name = record { at = 0; len = 0 } }; switch = false }
+      ∷ record { figures = record { parent = Some 1; rate = 300; repair = 180; customers = 20; load = 80; name = record { at = 0; len = 0 } }; switch = true }
+      ∷ record { figures = record { parent = Some 1; rate = 400; repair = 45; customers = 5; load = 20; name = record { at = 0; len = 0 } }; switch = false }
       ∷ [];
   switching = 60;
 }

@@ -42,7 +42,7 @@ pub record RecordIs (n p : ℕ) (r : Record) (bs : List ℕ) : Type 0 where
   pub bytes : bs ≡ map ∷ (figures ++ name)
   pub allowed : bit_and map (forbidden n) ≡ 0
   pub fields_are : FieldsAre n map fields (parent ∷ r.rate ∷ hours ∷ r.customers ∷ r.load ∷ []) figures
-  pub name_is : NameIs (named map) (p + 1 + length figures) r.name_at r.name_len name
+  pub name_is : NameIs (named map) (p + 1 + length figures) r.name.at r.name.len name
   pub place : r.at ≡ p
   pub parent_is : r.parent ≡ parent_of n parent
   pub hours_are : r.hours ≡ from_bits binary64 hours

@@ -1,14 +1,18 @@
 -- The number fields of a record at their places in the archive: what is read, and the first fault.
-use Rattle.std.specs.Prelude.{◌≡◌, ℕ, ◌+◌, ◌*◌, ◌<◌, ◌≤◌, Bool, true, false, ◌⊎◌, List, [], ◌∷◌, length, slice_index}
+use Rattle.std.specs.Prelude.{◌≡◌, ℕ, ◌+◌, ◌*◌, ◌<◌, ◌≤◌, Bool, true, false, ◌⊎◌, List, [], ◌∷◌, length, take, drop, slice_index}
 use Rattle.archive.specs.declared.bytes.BytesFault.{BytesFault}
 use Rattle.archive.specs.declared.record.RecordFault.{RecordFault}
 use Rattle.archive.specs.declared.record.RecordFault.TheVariants.{Bytes}
 use Rattle.archive.specs.Layout.{Field, parent, rate, hours, customers, load, stands, bit, width, Good, absent, bad}
 
 -- ---- w bytes at place p of the archive s
--- They are there, and make the number x, which is v.
-abbrev pub BytesRead : List ℕ → ℕ → ℕ → ℕ → ℕ → Type 0
+-- They are there, and make x, which is v.
+abbrev pub BytesRead : {A : Type 0} → List ℕ → ℕ → ℕ → A → A → Type 0
 BytesRead s p w x v = (p + w ≤ length s) × (v ≡ x)
+
+-- the w bytes themselves
+abbrev pub bytes_from : List ℕ → ℕ → ℕ → List ℕ
+bytes_from s p w = take w (drop p s)
 
 -- They are cut short.
 abbrev pub BytesCut : List ℕ → ℕ → ℕ → BytesFault → Type 0

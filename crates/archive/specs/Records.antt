@@ -36,7 +36,7 @@ MapRefused s p n f = ((length s < p + 1) × (f ≡ Bytes (record { at = p }))) �
 abbrev pub Laid : List ℕ → ℕ → ℕ → Record → ℕ → Type 0
 Laid s p n r q =
     (m : ℕ) × (v : ℕ) × (h : ℕ) × (o : ℕ) × MapRead s p n m × ReadAll s n m fields (p + 1) (v ∷ r.rate ∷ h ∷ r.customers ∷ r.load ∷ []) o
-    × NameRead s (named m) o r.name_at r.name_len q
+    × NameRead s (named m) o r.name.at r.name.len q
     × (r.at ≡ p) × (r.parent ≡ parent_of n v) × (r.hours ≡ from_bits binary64 h) × (r.switch ≡ marked m)
 
 -- The first fault of the record of section n that should stand at place p is f.

@@ -7,7 +7,7 @@ use Rattle.archive.specs.declared.record.Record.{Record}
 -- with a repair time of m minutes
 abbrev pub section_with : Record → ℕ → Section
 section_with r m = record {
-  figures = record { parent = r.parent; rate = r.rate; repair = m; customers = r.customers; load = r.load; name_at = r.name_at; name_len = r.name_len };
+  figures = record { parent = r.parent; rate = r.rate; repair = m; customers = r.customers; load = r.load; name = r.name };
   switch = r.switch;
 }
 

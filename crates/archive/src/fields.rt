@@ -1,10 +1,10 @@
 ghost use Rattle.std.specs.Prelude.{◌≡◌, ℕ, ◌≤◌, [], ◌∷◌, MatchResult, from_bits};
 ghost use Rattle.std.specs.Float.{binary64};
-ghost use Rattle.archive.specs.Layout.{parent, rate, hours, customers, load, fields};
+ghost use Rattle.archive.specs.Layout.{stands, parent, rate, hours, fields};
 ghost use Rattle.archive.specs.Reading.{be2, FieldRead, FieldRefused, ReadAt, RefusedAt, ReadAll, FirstFault};
 ghost use Rattle.archive.specs.declared.record.RecordFault.TheVariants.{Figure};
 
-use crate::bytes::{u16_at, u32_at, u64_at};
+use crate::bytes::bytes_at;
 use crate::record::RecordFault;
 use hours::minutes;
 use std::num::f64_from_bits_with_nan;
@@ -36,102 +36,96 @@ pub(crate) struct Fields {
     pub(crate) load: u16,
 }
 
-fn read_parent(bytes: &[u8], map: u8, at: usize, number: u16) -> Result<(u16, usize), RecordFault>
-    ensures { MatchResult result (λ t. ReadAt bytes.now number map parent at t.0 t.1) (λ f. RefusedAt bytes.now number map parent at f) }
-{
-    if map & PARENT == 0 {
-        return Ok((number.saturating_sub(1), at));
-    }
-    let value = u16_at(bytes, at)?;
-    if value >= number {
-        return Err(RecordFault::Parent { at });
-    }
-    Ok((value, at + 2))
+/// A record whose fields are to be read: the archive, the section's number and
+/// the record's map byte.
+#[derive(Clone, Copy)]
+pub(crate) struct Mapped<'a> {
+    pub(crate) bytes: &'a [u8],
+    pub(crate) number: u16,
+    pub(crate) map: u8,
 }
 
-fn read_rate(bytes: &[u8], map: u8, at: usize, number: u16) -> Result<(u32, usize), RecordFault>
-    ensures { MatchResult result (λ t. ReadAt bytes.now number map rate at t.0 t.1) (λ f. RefusedAt bytes.now number map rate at f) }
-{
-    if map & RATE == 0 {
-        return Ok((0, at));
+impl Mapped<'_> {
+    fn has(&self, bit: u8) -> bool
+        ensures { result ≡ stands self.now.map bit }
+    {
+        self.map & bit != 0
     }
-    let value = u32_at(bytes, at)?;
-    if value > MOST_RATE {
-        return Err(RecordFault::Figure { at });
-    }
-    Ok((value, at + 4))
-}
 
-// The hours stay as they are read, so that a record says what its bytes say.
-fn read_hours(bytes: &[u8], map: u8, at: usize, number: u16) -> Result<(f64, usize), RecordFault>
-    ensures { MatchResult result (λ t. (v : ℕ) × ReadAt bytes.now number map hours at v t.1 × (t.0 ≡ from_bits binary64 v)) (λ f. RefusedAt bytes.now number map hours at f) }
-{
-    if map & HOURS == 0 {
-        return Ok((2.0, at));
+    // One function for each kind of field: they differ in width, range, absence and fault, and each says its own.
+    fn parent(&self, at: usize) -> Result<(u16, usize), RecordFault>
+        ensures { MatchResult result (λ t. ReadAt self.now.bytes.now self.now.number self.now.map parent at t.0 t.1) (λ f. RefusedAt self.now.bytes.now self.now.number self.now.map parent at f) }
+    {
+        if !self.has(PARENT) {
+            return Ok((self.number.saturating_sub(1), at));
+        }
+        let value = u16::from_be_bytes(bytes_at(self.bytes, at)?);
+        if value >= self.number {
+            return Err(RecordFault::Parent { at });
+        }
+        Ok((value, at + 2))
     }
-    let value = f64_from_bits_with_nan(u64_at(bytes, at)?);
-    if minutes(value).is_none() {
-        return Err(RecordFault::Figure { at });
+
+    fn rate(&self, at: usize) -> Result<(u32, usize), RecordFault>
+        ensures { MatchResult result (λ t. ReadAt self.now.bytes.now self.now.number self.now.map rate at t.0 t.1) (λ f. RefusedAt self.now.bytes.now self.now.number self.now.map rate at f) }
+    {
+        if !self.has(RATE) {
+            return Ok((0, at));
+        }
+        let value = u32::from_be_bytes(bytes_at(self.bytes, at)?);
+        if value > MOST_RATE {
+            return Err(RecordFault::Figure { at });
+        }
+        Ok((value, at + 4))
     }
-    Ok((value, at + 8))
-}
 
-// A figure of two bytes up to `limit`, or 0 where it does not stand; and the place after it.
-fn read_u16(bytes: &[u8], here: bool, at: usize, limit: u16) -> Result<(u16, usize), RecordFault>
-    ensures { MatchResult result (λ t. FieldRead bytes.now here at 2 (be2 bytes.now at) (be2 bytes.now at ≤ limit) 0 t.0 t.1)
-        (λ f. FieldRefused bytes.now here at 2 (be2 bytes.now at ≤ limit) (Figure at) f) }
-{
-    if !here {
-        return Ok((0, at));
+    // The hours stay as they are read, so that a record says what its bytes say.
+    fn hours(&self, at: usize) -> Result<(f64, usize), RecordFault>
+        ensures { MatchResult result (λ t. (v : ℕ) × ReadAt self.now.bytes.now self.now.number self.now.map hours at v t.1 × (t.0 ≡ from_bits binary64 v)) (λ f. RefusedAt self.now.bytes.now self.now.number self.now.map hours at f) }
+    {
+        if !self.has(HOURS) {
+            return Ok((2.0, at));
+        }
+        let value = f64_from_bits_with_nan(u64::from_be_bytes(bytes_at(self.bytes, at)?));
+        if minutes(value).is_none() {
+            return Err(RecordFault::Figure { at });
+        }
+        Ok((value, at + 8))
     }
-    let value = u16_at(bytes, at)?;
-    if value > limit {
-        return Err(RecordFault::Figure { at });
+
+    // A figure of two bytes up to `limit`, or 0 where it does not stand; and the place after it.
+    fn figure(&self, bit: u8, at: usize, limit: u16) -> Result<(u16, usize), RecordFault>
+        ensures { MatchResult result (λ t. FieldRead self.now.bytes.now (stands self.now.map bit) at 2 (be2 self.now.bytes.now at) (be2 self.now.bytes.now at ≤ limit) 0 t.0 t.1)
+            (λ f. FieldRefused self.now.bytes.now (stands self.now.map bit) at 2 (be2 self.now.bytes.now at ≤ limit) (Figure at) f) }
+    {
+        if !self.has(bit) {
+            return Ok((0, at));
+        }
+        let value = u16::from_be_bytes(bytes_at(self.bytes, at)?);
+        if value > limit {
+            return Err(RecordFault::Figure { at });
+        }
+        Ok((value, at + 2))
     }
-    Ok((value, at + 2))
-}
 
-fn read_customers(
-    bytes: &[u8],
-    map: u8,
-    at: usize,
-    number: u16,
-) -> Result<(u16, usize), RecordFault>
-    ensures { MatchResult result (λ t. ReadAt bytes.now number map customers at t.0 t.1) (λ f. RefusedAt bytes.now number map customers at f) }
-{
-    read_u16(bytes, map & CUSTOMERS != 0, at, MOST_CUSTOMERS)
-}
-
-fn read_load(bytes: &[u8], map: u8, at: usize, number: u16) -> Result<(u16, usize), RecordFault>
-    ensures { MatchResult result (λ t. ReadAt bytes.now number map load at t.0 t.1) (λ f. RefusedAt bytes.now number map load at f) }
-{
-    read_u16(bytes, map & LOAD != 0, at, MOST_LOAD)
-}
-
-/// Reads the number fields whose bits stand in `map`, from place `at` on, and
-/// returns them with the place after them.
-pub(crate) fn read_fields(
-    bytes: &[u8],
-    map: u8,
-    at: usize,
-    number: u16,
-) -> Result<(Fields, usize), RecordFault>
-    ensures { MatchResult result (λ t. (h : ℕ) × (t.0.hours ≡ from_bits binary64 h) × ReadAll bytes.now number map fields at (t.0.parent ∷ t.0.rate ∷ h ∷ t.0.customers ∷ t.0.load ∷ []) t.1)
-        (λ f. FirstFault bytes.now number map fields at f) }
-{
-    let (parent, at) = read_parent(bytes, map, at, number)?;
-    let (rate, at) = read_rate(bytes, map, at, number)?;
-    let (hours, at) = read_hours(bytes, map, at, number)?;
-    let (customers, at) = read_customers(bytes, map, at, number)?;
-    let (load, at) = read_load(bytes, map, at, number)?;
-    Ok((
-        Fields {
+    /// Reads the number fields whose bits stand in the map, from place `at` on,
+    /// and returns them with the place after them.
+    pub(crate) fn fields(&self, at: usize) -> Result<(Fields, usize), RecordFault>
+        ensures { MatchResult result (λ t. (h : ℕ) × (t.0.hours ≡ from_bits binary64 h) × ReadAll self.now.bytes.now self.now.number self.now.map fields at (t.0.parent ∷ t.0.rate ∷ h ∷ t.0.customers ∷ t.0.load ∷ []) t.1)
+            (λ f. FirstFault self.now.bytes.now self.now.number self.now.map fields at f) }
+    {
+        let (parent, at) = self.parent(at)?;
+        let (rate, at) = self.rate(at)?;
+        let (hours, at) = self.hours(at)?;
+        let (customers, at) = self.figure(CUSTOMERS, at, MOST_CUSTOMERS)?;
+        let (load, at) = self.figure(LOAD, at, MOST_LOAD)?;
+        let fields = Fields {
             parent,
             rate,
             hours,
             customers,
             load,
-        },
-        at,
-    ))
+        };
+        Ok((fields, at))
+    }
 }

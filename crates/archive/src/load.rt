@@ -7,13 +7,11 @@ ghost use Rattle.archive.specs.Archives.{Records, All, First, checks, RecordFail
 ghost use Rattle.archive.specs.Outcome.{Loaded, Refused};
 ghost use Rattle.archive.specs.Laws.{OneOutcome};
 
-use crate::bytes::u16_at;
+use crate::bytes::bytes_at;
 use crate::fault::{LoadFault, SectionFault};
 use crate::record::{Record, read_record};
-use feeder::{Figures, Section};
+use feeder::{Figures, MOST_SECTIONS, Section};
 use hours::minutes;
-
-const MOST_SECTIONS: usize = 1024;
 
 const MOST_SWITCHING: u16 = 1440;
 
@@ -21,11 +19,11 @@ const MOST_SWITCHING: u16 = 1440;
 fn read_header(bytes: &[u8], room: usize) -> Result<(usize, u16), LoadFault>
     ensures { MatchResult result (λ t. (t.0 ≡ be2 bytes.now 0) × (t.1 ≡ be2 bytes.now 2) × All (checks bytes.now room)) (λ f. First (checks bytes.now room) f) }
 {
-    let count = u16_at(bytes, 0)? as usize;
+    let count = usize::from(u16::from_be_bytes(bytes_at(bytes, 0)?));
     if count < 1 || count > MOST_SECTIONS {
         return Err(LoadFault::Range { at: 0 });
     }
-    let switching = u16_at(bytes, 2)?;
+    let switching = u16::from_be_bytes(bytes_at(bytes, 2)?);
     if switching < 1 || switching > MOST_SWITCHING {
         return Err(LoadFault::Range { at: 2 });
     }
@@ -35,6 +33,7 @@ fn read_header(bytes: &[u8], room: usize) -> Result<(usize, u16), LoadFault>
     Ok((count, switching))
 }
 
+// No `From`: only a record with a count of quarter hours makes a section, and a conversion has no place for that condition.
 fn section_of(read: &Record) -> Section
     requires { (q : ℕ) × Quarters read.now.hours q }
     ensures { SectionOf read.now result }
@@ -47,8 +46,7 @@ fn section_of(read: &Record) -> Section
             repair,
             customers: read.customers,
             load: read.load,
-            name_at: read.name_at,
-            name_len: read.name_len,
+            name: read.name,
         },
         switch: read.switch,
     }
@@ -58,6 +56,7 @@ fn section_of(read: &Record) -> Section
 fn read_section(bytes: &[u8], at: usize, number: u16) -> Result<(Section, usize), SectionFault>
     ensures { MatchResult result (λ t. (d : Record) × Laid bytes.now at number d t.1 × SectionOf d t.0) (λ e. (e.section ≡ number) × Faulty bytes.now at number e.fault) }
 {
+    // A `match`: with `map_err`, which fault its closure was given did not come out of the proof.
     match read_record(bytes, at, number) {
         Ok((record, end)) => Ok((section_of(&record), end)),
         Err(fault) => Err(SectionFault {
@@ -73,10 +72,8 @@ fn read_sections(bytes: &[u8], list: &mut [Section]) -> Result<usize, SectionFau
     ensures { MatchResult result (λ q. Records bytes.now 0 4 list.new q) (λ e. RecordFails bytes.now (length list.old) e) }
 {
     let mut at = 4;
-    for i in 0..list.len() {
-        let (section, next) = read_section(bytes, at, i as u16)?;
-        list[i] = section;
-        at = next;
+    for (i, slot) in list.iter_mut().enumerate() {
+        (*slot, at) = read_section(bytes, at, i as u16)?;
     }
     Ok(at)
 }
@@ -106,6 +103,7 @@ pub fn load_sections(bytes: &[u8], list: &mut [Section]) -> Result<(usize, u16),
     ensures one { OneOutcome bytes.now (length list.old) }
 {
     let (count, switching) = read_header(bytes, list.len())?;
+    // A table for the most sections: a load allocates nothing.
     let mut all = [Section::BLANK; MOST_SECTIONS];
     let sections = &mut all[0..count];
     let end = read_sections(bytes, sections)?;

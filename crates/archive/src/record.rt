@@ -4,9 +4,9 @@ ghost use Rattle.archive.specs.Records.{MapRead, MapRefused, Laid, Faulty};
 ghost use Rattle.archive.specs.Laws.{OneRecord};
 ghost use Rattle.archive.specs.declared.record.RecordFault.TheVariants.{Bytes};
 
-use crate::bytes::{BytesFault, u8_at};
-use crate::fields::read_fields;
-use crate::name::read_name;
+use crate::bytes::{BytesFault, bytes_at};
+use crate::fields::Mapped;
+use feeder::Name;
 
 /// A section record as its bytes say it, with absent fields filled in.
 #[derive(Clone, Copy, Debug)]
@@ -21,9 +21,7 @@ pub struct Record {
     /// Load in kW.
     pub load: u16,
     pub switch: bool,
-    /// Where the name's text begins; 0 where the name is empty.
-    pub name_at: usize,
-    pub name_len: u8,
+    pub name: Name,
     /// The place of the map byte.
     pub at: usize,
 }
@@ -58,11 +56,11 @@ const FORBIDDEN: u8 = 0b1000_0000;
 // Section 0 has no parent and no switch either.
 const FORBIDDEN_AT_ROOT: u8 = 0b1010_0001;
 
-// The map byte, with no bit that must not stand.
+// The map byte, with no bit that must not stand. It is read before there is a `Mapped` to read from.
 fn read_map(bytes: &[u8], at: usize, number: u16) -> Result<u8, RecordFault>
     ensures { MatchResult result (λ m. MapRead bytes.now at number m) (λ f. MapRefused bytes.now at number f) }
 {
-    let map = u8_at(bytes, at)?;
+    let [map] = bytes_at::<1>(bytes, at)?;
     let wrong = if number == 0 {
         FORBIDDEN_AT_ROOT
     } else {
@@ -92,8 +90,9 @@ pub fn read_record(bytes: &[u8], at: usize, number: u16) -> Result<(Record, usiz
     ensures one { OneRecord bytes.now at number }
 {
     let map = read_map(bytes, at, number)?;
-    let (fields, next) = read_fields(bytes, map, at + 1, number)?;
-    let (name_at, name_len, end) = read_name(bytes, map, next)?;
+    let mapped = Mapped { bytes, number, map };
+    let (fields, next) = mapped.fields(at + 1)?;
+    let (name, end) = mapped.name(next)?;
     let record = Record {
         parent: parent_of(number, fields.parent),
         rate: fields.rate,
@@ -101,8 +100,7 @@ pub fn read_record(bytes: &[u8], at: usize, number: u16) -> Result<(Record, usiz
         customers: fields.customers,
         load: fields.load,
         switch: map & SWITCH != 0,
-        name_at,
-        name_len,
+        name,
         at,
     };
     Ok((record, end))

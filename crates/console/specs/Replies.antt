@@ -21,6 +21,11 @@ use Rattle.engine.specs.Changes.{judged, direct, console, wrote, after}
 use Rattle.engine.specs.Logs.{Entry, changed, asked}
 use Rattle.engine.specs.Questions.{total_of, short_trial_of, saifi_of, saidi_of, eens_of, plain}
 
+-- an answer, or E and the refusal's number
+abbrev pub spoken : Result Answer Refusal → Answer
+spoken (Ok a) = a
+spoken (Err e) = Refused e
+
 -- ok, or E and the refusal's number
 abbrev pub done : Option Refusal → Answer
 done None = Done

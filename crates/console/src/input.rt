@@ -8,17 +8,21 @@ ghost use Rattle.console.specs.Laws.{Lined, LineAnswer};
 use crate::answer::answer_line;
 use engine::Study;
 use lines::{Answer, Refusal, write_answer};
-use stream::Input;
+use stream::{Text, TooLong};
 
 /// Answers a line as a stream hands it out; one that was too long is refused whole, as the line that it was.
-pub fn answer_input(study: &mut Study, input: &Input, out: &mut [u8]) -> Result<usize, Refusal>
+pub fn answer_input(
+    study: &mut Study,
+    input: &Result<Text, TooLong>,
+    out: &mut [u8],
+) -> Result<usize, Refusal>
     ensures lined { (line : List ℕ) → Delivers line input.now → Lined line out.old (feeder_of study.old) result out.new (feeder_of study.new) }
     ensures alike { (line : List ℕ) → Delivers line input.now → Alike (LineAnswer line out.old) (feeder_of study.old) (result, out.new) }
     ensures rest { beyond study.new ≡ beyond study.old }
     ensures fits { MatchResult result (λ n. n ≤ length out.old) (λ _. length out.old < 64) }
 {
     match input {
-        Input::Line(text) => answer_line(study, text.as_slice(), out),
-        Input::TooLong => write_answer(&Answer::Refused(Refusal::Line), out),
+        Ok(text) => answer_line(study, text.as_slice(), out),
+        Err(TooLong) => write_answer(&Answer::Refused(Refusal::Line), out),
     }
 }

@@ -1,5 +1,5 @@
 -- The laws over two logs, from answers that the feeder decides. Assumes nothing.
-use Rattle.std.proofs.Common.{◌≡◌, ℕ, ◌+◌, ◌*◌, ◌<◌, ◌≤◌, Bool, true, false, leb, List, length, Some, None, Ok, Err, Option, sym, refl, ap, ◌∙◌, subst, arith, le-ltb, le-leb}
+use Rattle.std.proofs.Common.{◌≡◌, ℕ, ◌+◌, ◌*◌, ◌<◌, ◌≤◌, Bool, true, false, leb, List, length, Some, None, Ok, Err, Option, sym, refl, ap, ◌∙◌, subst, arith, le-ltb}
 use borrow.Author.Tests.{lt-leb}
 use Rattle.feeder.specs.Feeder.{Feeder, Sound, size, fitted}
 use Rattle.feeder.specs.Measure.{Meaning, Lawful}
@@ -31,9 +31,6 @@ alike_by reply f r e = alike (λ g r'. r' ≡ reply g) (λ h r r' p q. q ∙ sym
 -- a section that stands is not missing
 pub not_missing : (f : Feeder) (k : ℕ) (later : Option Refusal) → k < size f → missing f k later ≡ later
 not_missing f k later l = ap (λ (b : Bool). first b NoSection later) (lt-leb _ _ l)
-
-pub is_missing : (f : Feeder) (k : ℕ) (later : Option Refusal) → size f ≤ k → missing f k later ≡ Some NoSection
-is_missing f k later l = ap (λ (b : Bool). first b NoSection later) (le-leb _ _ l)
 
 pub answered : {A : Type 0} (o : Option Refusal) (x : A) → o ≡ None → or_refused o x ≡ Ok x
 answered o x e = ap (λ (p : Option Refusal). or_refused p x) e

@@ -1,18 +1,21 @@
 -- How changes and trials are judged on a study's feeder. Assumes nothing.
-use Rattle.std.proofs.Common.{◌≡◌, ℕ, ◌<◌, ◌≤◌, Bool, true, false, not, eqb, leb, List, length, get_or, take, set, Some, None, Ok, Err, Option, sym, ap, ◌∙◌, length-take-le, get_or-take, le-ltb, lt-ltb, eq-eqb, ne_eqb, le-leb, leb-false, leb-true}
+use Rattle.std.proofs.Common.{◌≡◌, ℕ, ◌<◌, ◌≤◌, Bool, true, false, cond, not, eqb, leb, List, length, get_or, take, set, Some, None, Ok, Err, Option, Result, sym, refl, ap, ◌∙◌, length-take-le, get_or-take, le-ltb, lt-ltb, ne_eqb, le-leb, leb-false, arith, leb-true}
 use borrow.Author.Tests.{lt-leb}
 use Rattle.std.proofs.lemmas.Bool.{and_from}
 use Rattle.feeder.specs.declared.section.Section.{Section}
 use Rattle.feeder.specs.Feeder.{Feeder, size, at, blank}
+use Rattle.std.specs.Result.{result_or}
+use Rattle.sweeps.specs.declared.asked.TooShort.{TooShort}
+use Rattle.sweeps.specs.Views.{too_short}
 use Rattle.sweeps.specs.Lists.{feeder, written}
 use Rattle.lines.specs.declared.refusal.Refusal.{Refusal}
-use Rattle.lines.specs.declared.refusal.Refusal.TheVariants.{NoSection, Root, Stands, Clear, Short, Range}
+use Rattle.lines.specs.declared.refusal.Refusal.TheVariants.{NoSection, Root, Clear, Short, Range}
 use Rattle.lines.specs.declared.change.Change.{Change}
 use Rattle.lines.specs.declared.change.Change.TheVariants.{Unfit, Set}
 use Rattle.engine.specs.declared.journal.Call.TheVariants.{Direct}
 use Rattle.engine.specs.Changes.{first, settable, judged, told, touched, named, direct, gave, unless}
 use Rattle.engine.specs.Logs.{Step, changed}
-use Rattle.engine.specs.Questions.{untried, writes, if_room}
+use Rattle.engine.specs.Questions.{writes, if_room}
 
 -- a section other than 0 that stands is judged by what comes after
 pub stands : (n k : ℕ) (o : Option Refusal) → k < n → (k ≡ 0 → ⊥) → first (leb n k) NoSection (first (eqb k 0) Root o) ≡ o
@@ -20,6 +23,9 @@ stands n k o h z =
     let a : leb n k ≡ false = lt-leb n k h in
     let b : eqb k 0 ≡ false = ne_eqb k 0 z in
     simp (a, b)
+
+pub not_zero : (k : ℕ) → 0 < k → k ≡ 0 → ⊥
+not_zero k l z = omega (arith, l, z)
 
 module _ (xs : List Section) (n k s : ℕ) (w : n ≤ length xs) (h : k < n) where
   at_is : at (feeder (take n xs) s) k ≡ get_or xs k blank
@@ -31,15 +37,16 @@ module _ (xs : List Section) (n k s : ℕ) (w : n ≤ length xs) (h : k < n) whe
   under : k < size (feeder (take n xs) s)
   under = rw size_is h
 
-  pub fit_judged : (k ≡ 0 → ⊥) → (b : Bool) → (get_or xs k blank).switch ≡ b → untried (feeder (take n xs) s) k ≡ first b Stands None
-  fit_judged z b e =
-      stands (size (feeder (take n xs) s)) k _ under z ∙ ap (λ (b : Bool). first b Stands None) (ap (λ (c : Section). c.switch) at_is ∙ e)
-
--- by a test for room
-pub roomy : {V : Type 0} (n : ℕ) (value : ℕ → V) (before : List V) (b : Bool) → leb n (length before) ≡ b
-    → if_room n value before ≡ writes (first (not b) Short None) (written value n before) before
-roomy n value before true e = ap (λ (b : Bool). writes (first b Short None) (written value n before) before) (le-ltb (length before) n (leb-true _ _ e))
-roomy n value before false e = ap (λ (b : Bool). writes (first b Short None) (written value n before) before) (lt-ltb (length before) n (leb-false _ _ e))
+-- what a sweep of all totals leaves and answers, with the refusal of a list that is too short
+pub roomy : {V : Type 0} (n : ℕ) (value : ℕ → V) (before after : List V) (r : Result (Unit {0}) TooShort)
+    → r ≡ cond (leb n (length before)) (Ok tt) (Err too_short) → after ≡ cond (leb n (length before)) (written value n before) before
+    → (result_or r (Err Short), after) ≡ if_room n value before
+roomy n value before after r e o =
+    let by_room : (b : Bool) → leb n (length before) ≡ b → (result_or (cond b (Ok tt) (Err too_short)) (Err Short), cond b (written value n before) before) ≡ if_room n value before = elim [
+      | true ↦ λ t. sym (ap (λ (b : Bool). writes (first b Short None) (written value n before) before) (le-ltb (length before) n (leb-true _ _ t)))
+      | false ↦ λ t. sym (ap (λ (b : Bool). writes (first b Short None) (written value n before) before) (lt-ltb (length before) n (leb-false _ _ t)))
+    ] in
+    (λ t. (result_or (e t) (Err Short), o t)) ∙ by_room (leb n (length before)) refl
 
 pub unfit_judged : (xs : List Section) (n k s : ℕ) → n ≤ length xs → k < n → (k ≡ 0 → ⊥) → (b : Bool) → (get_or xs k blank).switch ≡ b
     → judged (feeder (take n xs) s) (direct (Unfit k)) ≡ first (not b) Clear None
@@ -68,9 +75,3 @@ step_done f x g q e = (
   sym (ap (told Direct) q),
   e ∙ sym (ap (λ (o : Option Refusal). feeder (unless o (set f.sections (named x) (touched x (at f (named x)))) f.sections) f.switching) q),
 )
-
-pub fit_none : (f : Feeder) (j : ℕ) → size f ≤ j → untried f j ≡ Some NoSection
-fit_none f j l = simp (le-leb (size f) j l)
-
-pub fit_root : (f : Feeder) (j : ℕ) → j < size f → j ≡ 0 → untried f j ≡ Some Root
-fit_root f j l z = simp (lt-leb (size f) j l, eq-eqb j 0 z)

@@ -1,17 +1,15 @@
 -- What a result tells of the refusal behind it, and a study's answers by its feeder. Assumes nothing.
-use Rattle.std.proofs.Common.{◌≡◌, ℕ, ◌<◌, ◌≤◌, Bool, false, cond, Some, None, Ok, Err, Option, Result, sym, refl, ap, ◌∙◌, subst, ⊎_elim, arith, lt-ltb}
+use Rattle.std.proofs.Common.{◌≡◌, ℕ, ◌<◌, Bool, true, false, Some, None, Ok, Err, Option, Result, sym, refl, ap, ◌∙◌, subst, ⊎_elim, arith}
 use Rattle.std.proofs.lemmas.Bool.{cases_lt}
-use Rattle.std.specs.Option.{ok_or}
 use Rattle.feeder.specs.Feeder.{Feeder, size, cut}
 use Rattle.lines.specs.declared.refusal.Refusal.{Refusal}
-use Rattle.lines.specs.declared.refusal.Refusal.TheVariants.{NoSection}
 use Rattle.feeder.specs.Measure.{Meaning}
-use Rattle.sweeps.specs.Views.{if_there}
 use Rattle.sweeps.specs.Weights.{FirstLargest}
 use Rattle.engine.specs.declared.study.Study.{Study}
+use Rattle.engine.specs.Changes.{first}
 use Rattle.engine.specs.Questions.{or_refused, untried, missing, WorstOf}
 use Rattle.engine.specs.Studies.{feeder_of}
-use Rattle.engine.proofs.Asked.{is_missing, not_missing}
+use Rattle.engine.proofs.Asked.{not_missing}
 use Rattle.engine.proofs.Sounds.{size_is}
 use Rattle.engine.proofs.Switches.{Bare, bare_at}
 
@@ -19,9 +17,10 @@ pub ok_none : {A : Type 0} (o : Option Refusal) (x y : A) → Ok y ≡ or_refuse
 ok_none None x y e = (refl, cc)
 ok_none (Some r) x y e = let z : ◌≡◌ {A = ℕ} 0 1 = cc in absurd (omega arith)
 
-pub err_some : {A : Type 0} (o : Option Refusal) (x : A) (r : Refusal) → Err r ≡ or_refused o x → o ≡ Some r
-err_some None x r e = let z : ◌≡◌ {A = ℕ} 0 1 = cc in absurd (omega arith)
-err_some (Some q) x r e = cc
+-- what comes before it is told whatever comes after
+pub sooner : (b : Bool) (x e : Refusal) (later : Option Refusal) → first b x None ≡ Some e → first b x later ≡ Some e
+sooner true x e later q = q
+sooner false x e later q = let z : ◌≡◌ {A = ℕ} 0 1 = cc in absurd (omega arith)
 
 -- the index that stands for a section where a switch can be fitted
 pub record Index (s : Study) (j a : ℕ) : Type 0 where
@@ -38,22 +37,8 @@ index_of s j a e =
     let l = b.stands in
     record { same = same; free = free; not_root = b.not_root; within = omega (arith, l, size_is s); bare = b.bare }
 
--- a study without sections
-pub none_there : (s : Study) (later : Option Refusal) → s.count ≡ 0 → missing (feeder_of s) 0 later ≡ Some NoSection
-none_there s later e = is_missing (feeder_of s) 0 later (omega (arith, size_is s, e))
-
-pub some_there : (s : Study) (later : Option Refusal) → (s.count ≡ 0 → ⊥) → missing (feeder_of s) 0 later ≡ later
-some_there s later e = not_missing (feeder_of s) 0 later (let n = size_is s in omega (arith, n, e))
-
-pub past_end : (s : Study) (k : ℕ) (later : Option Refusal) → s.count ≤ k → missing (feeder_of s) k later ≡ Some NoSection
-past_end s k later l = is_missing (feeder_of s) k later (omega (arith, size_is s, l))
-
 pub before_end : (s : Study) (k : ℕ) (later : Option Refusal) → k < s.count → missing (feeder_of s) k later ≡ later
 before_end s k later l = not_missing (feeder_of s) k later (omega (arith, size_is s, l))
-
--- what is asked of a section that stands is answered
-pub there : {A : Type 0} (f : Feeder) (j : ℕ) (x : A) (o : Option A) (e : Refusal) → j < size f → o ≡ if_there f j x → ok_or o e ≡ Ok x
-there f j x o e l q = ap (λ (p : Option _). ok_or p e) (q ∙ ap (λ (b : Bool). cond b (Some x) None) (lt-ltb _ _ l))
 
 -- the first of the largest is one
 largest_one : (g : ℕ → ℕ) (n w w' : ℕ) → FirstLargest g n w → FirstLargest g n w' → w' ≡ w

@@ -54,7 +54,7 @@ marked c b = record { figures = c.figures; switch = b }
 -- rate, repair time, customers and load are replaced, and nothing else
 abbrev pub refigured : Figures → ℕ → ℕ → ℕ → ℕ → Figures
 refigured d rate quarters customers load =
-    record { parent = d.parent; rate = rate; repair = 15 * quarters; customers = customers; load = load; name_at = d.name_at; name_len = d.name_len }
+    record { parent = d.parent; rate = rate; repair = 15 * quarters; customers = customers; load = load; name = d.name }
 
 -- the named section once the change is made
 abbrev pub touched : Change → Section → Section

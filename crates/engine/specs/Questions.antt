@@ -84,8 +84,8 @@ eens_of f = or_refused (missing f 0 None) (weighted_sum minutes plain (weight_of
 -- the name of section k, as the archive shown has it
 abbrev pub name_of : List ℕ → ℕ → Feeder → Result (List ℕ) Refusal
 name_of archive k f =
-    or_refused (missing f k (first (nat_lt (length archive) ((figures f k).name_at + (figures f k).name_len)) NameCut None))
-    (take (figures f k).name_len (drop (figures f k).name_at archive))
+    or_refused (missing f k (first (nat_lt (length archive) ((figures f k).name.at + (figures f k).name.len)) NameCut None))
+    (take (figures f k).name.len (drop (figures f k).name.at archive))
 
 -- why a trial of a switch at j is not made: as a fit is judged
 abbrev pub untried : Feeder → ℕ → Option Refusal

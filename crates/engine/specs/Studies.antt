@@ -1,7 +1,8 @@
 -- The feeder of a study, and what a load does to it. Assumes nothing.
-use Rattle.std.specs.Prelude.{◌≡◌, ℕ, List, [], length, take, drop}
+use Rattle.std.specs.Prelude.{◌≡◌, ℕ, ◌<◌, ◌≤◌, false, List, [], length, take, drop, slice_index_or}
 use Rattle.feeder.specs.declared.section.Section.{Section}
-use Rattle.feeder.specs.Feeder.{Feeder}
+use Rattle.feeder.specs.Feeder.{Feeder, blank}
+use Rattle.feeder.specs.Checked.{AllFine}
 use Rattle.archive.specs.declared.fault.LoadFault.{LoadFault}
 use Rattle.archive.specs.Grammar.{Keeps}
 use Rattle.archive.specs.Archives.{Fails}
@@ -33,3 +34,14 @@ pub record Refused (archive : List ℕ) (before after : Study) (f : LoadFault) :
   pub fails : Fails archive (length (lent_to before)) f
   pub list : lent_to after ≡ lent_to before
   pub feeder : feeder_of after ≡ feeder_of before
+
+-- The first n entries of the list are the sections of a feeder with the switching time s, and a switch can be fitted at section k.
+pub record Triable (list : List Section) (n s k : ℕ) : Type 0 where
+  pub within : n ≤ length list
+  pub few : n ≤ 1024
+  pub low : 1 ≤ s
+  pub high : s ≤ 1440
+  pub fine : AllFine (take n list)
+  pub above : 0 < k
+  pub below : k < n
+  pub bare : (slice_index_or list k blank).switch ≡ false

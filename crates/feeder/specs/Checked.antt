@@ -13,7 +13,7 @@ placed (suc k) (Some p) b = nat_lt p (suc k)
 
 -- at most 32 bytes; an empty name has place 0
 abbrev pub name_fine : Figures → Bool
-name_fine d = nat_le d.name_len 32 && (nat_lt 0 d.name_len || d.name_at == 0)
+name_fine d = nat_le d.name.len 32 && (nat_lt 0 d.name.len || d.name.at == 0)
 
 -- from 15 to 10,080 minutes, in steps of 15
 abbrev pub repair_fine : Figures → Bool

@@ -9,7 +9,7 @@ pub record Feeder : Type 0 where
 
 -- past the last section: as the code's own read `sections[k]` is stated, so that the two are one term
 abbrev pub blank : Section
-blank = record { figures = record { parent = None; rate = 0; repair = 0; customers = 0; load = 0; name_at = 0; name_len = 0 }; switch = false }
+blank = record { figures = record { parent = None; rate = 0; repair = 0; customers = 0; load = 0; name = record { at = 0; len = 0 } }; switch = false }
 
 abbrev pub size : Feeder → ℕ
 size f = length f.sections
@@ -40,8 +40,8 @@ pub record Ranges (k : ℕ) (d : Figures) (s : ℕ) : Type 0 where
   pub repair_step : d.repair % 15 ≡ 0
   pub customers : d.customers ≤ 4000
   pub load : d.load ≤ 4000
-  pub name_length : d.name_len ≤ 32
-  pub name_empty : d.name_len ≡ 0 → d.name_at ≡ 0
+  pub name_length : d.name.len ≤ 32
+  pub name_empty : d.name.len ≡ 0 → d.name.at ≡ 0
   pub s_least : 1 ≤ s
   pub s_most : s ≤ 1440
 

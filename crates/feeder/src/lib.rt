@@ -3,4 +3,4 @@
 
 mod section;
 
-pub use section::{Figures, Section};
+pub use section::{Figures, MOST_SECTIONS, Name, Section};

@@ -1,3 +1,3 @@
 mod Tests
-mod Places
+mod Filtered
 pub mod Whole

@@ -2,7 +2,7 @@
 use Rattle.std.proofs.Common.{◌≡◌, ℕ, zero, suc, ◌+◌, ◌^◌, ◌<◌, List, [], ◌∷◌, ◌++◌, length, get_or, take, drop, set, Some, None, decimal, Option, sym, refl, ap, ◌∙◌, arith, MatchOption}
 use Rattle.std.proofs.lemmas.Fmt.{digits_decimal, decimal_injective}
 use Rattle.std.proofs.lemmas.List.{append_assoc, drop_more, take_more_set}
-use Rattle.lines.specs.Numbers.{Stops, Begins, Spaced}
+use Rattle.lines.specs.Numbers.{Stops, Spaced}
 use Rattle.lines.specs.Lines.{fields, Small}
 use Rattle.lines.proofs.Values.{parted, own}
 
@@ -39,13 +39,6 @@ more text all left rest i n h e (l, s, f) =
 pub cases_both : {T : Type 0} (r : Option T) {P P' : Type 0} {Q Q' : T → Type 0} → MatchOption r P Q → (P → P') → ((x : T) → Q x → Q' x) → MatchOption r P' Q'
 cases_both None h f g = f h
 cases_both (Some x) h f g = g x h
-
--- the space before a number
-pub spaced_from : (text after : List ℕ) → text ≡ 32 ∷ after → (n : ℕ) (rest : List ℕ) → Begins after n rest → Spaced text n rest
-spaced_from text after e n rest (l, s, f) = (l, s, e ∙ ap (λ (x : List ℕ). 32 ∷ x) f)
-
-pub begins_from : (text after : List ℕ) → text ≡ 32 ∷ after → (n : ℕ) (rest : List ℕ) → Spaced text n rest → Begins after n rest
-begins_from text after e n rest (l, s, f) = (l, s, (cc))
 
 -- a text is that of one list of numbers
 pub fields_same : (a b : List ℕ) → Small a → Small b → fields a ≡ fields b → a ≡ b

@@ -1,33 +1,8 @@
 -- Which letter goes with how many numbers.
-use Rattle.std.proofs.Common.{◌≡◌, ℕ, ◌<◌, List, [], ◌∷◌, length, get_or, Some, None, Option, sym, refl, ap, subst, arith}
-use Rattle.std.specs.List.{between}
-use Rattle.std.proofs.lemmas.Slice.{first_rest}
+use Rattle.std.proofs.Common.{◌≡◌, ℕ, List, [], ◌∷◌, length, get_or, Some, None, Option, sym, refl, ap, subst, arith}
 use Rattle.lines.specs.declared.line.Line.{Line}
-use Rattle.lines.specs.declared.change.Change.TheVariants.{Fit, Unfit, Set}
-use Rattle.lines.specs.declared.question.Question.TheVariants.{Minutes, Count, Longest, Trial, Indices}
-use Rattle.lines.specs.declared.line.Line.TheVariants as line
 use Rattle.lines.specs.Lines.{letter_of, numbers, fields, Small, Says, Reads, OneText}
 use Rattle.lines.proofs.Fields.{fields_same}
-
-pub five : (l : Line) → letter_of l ≡ 83 → length (numbers l) ≡ 5
-five (line.Change (Fit k)) e = omega arith
-five (line.Change (Unfit k)) e = omega arith
-five (line.Change (Set k r q c d)) e = refl
-five (line.Question (Minutes m)) e = omega arith
-five (line.Question (Count m)) e = omega arith
-five (line.Question (Longest m)) e = omega arith
-five (line.Question (Trial k)) e = omega arith
-five (line.Question Indices) e = omega arith
-
-pub one : (l : Line) → (letter_of l ≡ 88 → ⊥) → (letter_of l ≡ 83 → ⊥) → length (numbers l) ≡ 1
-one (line.Change (Fit k)) x s = refl
-one (line.Change (Unfit k)) x s = refl
-one (line.Change (Set k r q c d)) x s = absurd (s refl)
-one (line.Question (Minutes m)) x s = refl
-one (line.Question (Count m)) x s = refl
-one (line.Question (Longest m)) x s = refl
-one (line.Question (Trial k)) x s = refl
-one (line.Question Indices) x s = absurd (x refl)
 
 -- the letter and the rest of a text that says a line
 pub parts : (bs rest : List ℕ) (c : ℕ) (l : Line) → bs ≡ c ∷ rest → Says bs l → (letter_of l ≡ c) × (rest ≡ fields (numbers l))
@@ -35,9 +10,6 @@ parts bs rest c l e (s, f) = ((cc), (cc))
 
 pub says : (bs rest : List ℕ) (c : ℕ) (ns : List ℕ) (l : Line) → bs ≡ c ∷ rest → Small ns → rest ≡ fields ns → numbers l ≡ ns → letter_of l ≡ c → Says bs l
 says bs rest c ns l e s f n k = (subst Small (sym n) s, (cc))
-
-pub split : (bs : List ℕ) → 0 < length bs → bs ≡ get_or bs 0 0 ∷ between 1 (length bs) bs
-split bs h = first_rest bs 0 h
 
 -- a list of one number, and of five
 pub as_one : (a : List ℕ) → length a ≡ 1 → a ≡ get_or a 0 0 ∷ []

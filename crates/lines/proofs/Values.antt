@@ -1,28 +1,18 @@
 -- What digits are worth, and where a number ends.
 use Rattle.std.proofs.Common.{◌≡◌, ℕ, zero, suc, ◌+◌, ◌-◌, ◌*◌, ◌^◌, ◌<◌, ◌≤◌, List, [], ◌∷◌, ◌++◌, length, get_or, take, drop, decimal, sym, refl, ap, ◌∙◌, subst, suc-le-suc, arith}
-use Rattle.std.proofs.lemmas.Bool.Decides.{nat_tests}
-use Rattle.std.specs.Char.{digit_value as digitValue}
-use Rattle.std.specs.Str.Parse.{digits_value, digits_value_after}
-use Rattle.std.proofs.lemmas.Str.Parse.{IsNumeralModel, numerals_by_value, tells_by_index}
+use Rattle.std.specs.Str.Parse.{digits_value}
+use Rattle.std.proofs.lemmas.Str.{digit_value_digit}
+use Rattle.std.proofs.lemmas.Str.Parse.{IsNumeralModel, numerals_by_value, tells_by_index, digits_value-take-le}
 use Rattle.std.proofs.lemmas.Fmt.{digits_decimal, digits_value-decimal, decimal-digits_value, decimal_nonempty, first_decimal, decimal_digit}
 use Rattle.std.proofs.lemmas.Int.Digits.{digits_value_more}
 use Rattle.std.proofs.lemmas.List.{take-append-drop, length-take-le, get_or-take, get_or-drop}
 use Rattle.lines.specs.Numbers.{Digit, AllDigits, Stops, Front, Begins}
 
-pub digit_value : (c : ℕ) → Digit c → digitValue c ≡ c - 48
-digit_value c h = grind (arith, nat_tests)
-
-pub value_step : (ds : List ℕ) (i : ℕ) → AllDigits ds → i < length ds → digits_value 10 (take (i + 1) ds) ≡ digits_value 10 (take i ds) * 10 + (get_or ds i 0 - 48)
-value_step ds i p h = digits_value_more 10 ds i h ∙ ap (λ (d : ℕ). digits_value 10 (take i ds) * 10 + d) (digit_value _ (p i h))
-
-value_grows : (n : ℕ) (ds : List ℕ) → n ≤ digits_value_after 10 n ds
-value_grows n [] = omega arith
-value_grows n (c ∷ cs) = let h = value_grows (n * 10 + digitValue c) cs in omega arith
-
-pub value_front : (n : ℕ) (ds : List ℕ) (i : ℕ) → digits_value_after 10 n (take i ds) ≤ digits_value_after 10 n ds
-value_front n ds zero = value_grows n ds
-value_front n [] (suc i) = omega arith
-value_front n (c ∷ cs) (suc i) = value_front (n * 10 + digitValue c) cs i
+-- one digit more of those that write a number
+pub value_step : (ds : List ℕ) (i : ℕ) → AllDigits ds → i < length ds → (digits_value 10 (take (i + 1) ds) ≡ digits_value 10 (take i ds) * 10 + (get_or ds i 0 - 48)) × (digits_value 10 (take (i + 1) ds) ≤ digits_value 10 ds)
+value_step ds i p h =
+    let d = digit_value_digit (get_or ds i 0) (p i h) in
+    (omega (arith, digits_value_more 10 ds i h), digits_value-take-le 10 ds (i + 1) (omega arith))
 
 -- digits and what follows them can be parted in one way only
 pub parted : (a b c d : List ℕ) → AllDigits a → Stops b → AllDigits c → Stops d → a ++ b ≡ c ++ d → (a ≡ c) × (b ≡ d)

@@ -4,6 +4,7 @@ use Rattle.lines.specs.declared.refusal.Refusal.{Refusal}
 use Rattle.lines.specs.declared.refusal.Refusal.TheVariants.{Short}
 use Rattle.lines.specs.declared.answer.Answer.{Answer}
 use Rattle.lines.specs.declared.answer.Answer.TheVariants.{Done, Number, Longest, Trial, Indices, Refused, Fault}
+use Rattle.lines.specs.declared.write.Pen.{Pen}
 use Rattle.lines.specs.Lines.{fields}
 use Rattle.lines.specs.Refusals.{number_of}
 
@@ -21,11 +22,13 @@ body (Fault number place) = 69 ∷ fields (number ∷ place ∷ [])
 abbrev pub answer_text : Answer → List ℕ
 answer_text a = body a ++ (10 ∷ [])
 
--- xs was written at place p of the list was, which is now after, and n is the place after xs
-pub record Wrote (was : List ℕ) (p : ℕ) (xs after : List ℕ) (n : ℕ) : Type 0 where
-  pub place : n ≡ p + length xs
-  pub front : take n after ≡ take p was ++ xs
-  pub rest : drop n after ≡ drop n was
+-- the pen wrote xs at its place in its list, and went on past them
+pub record Wrote (was : Pen) (xs : List ℕ) (after : Pen) : Type 0 where
+  pub same_list : after.out.ghost_name ≡ was.out.ghost_name
+  pub size : length after.out.now ≡ length was.out.now
+  pub place : after.at ≡ was.at + length xs
+  pub front : take after.at after.out.now ≡ take was.at was.out.now ++ xs
+  pub rest : drop after.at after.out.now ≡ drop after.at was.out.now
 
 -- the answer a stands in n bytes at the front of the list, and every byte past it is as it was
 pub record Written (a : Answer) (was : List ℕ) (n : ℕ) (after : List ℕ) : Type 0 where

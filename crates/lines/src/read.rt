@@ -7,18 +7,13 @@ use crate::change::Change;
 use crate::line::Line;
 use crate::question::Question;
 
-const ZERO: u8 = b'0';
-
 // How many digits the text begins with.
 fn digits(text: &[u8]) -> usize
     ensures { Front text.now result }
 {
-    for (i, b) in text.iter().enumerate() {
-        if *b < b'0' || *b > b'9' {
-            return i;
-        }
-    }
-    text.len()
+    text.iter()
+        .position(|b| !b.is_ascii_digit())
+        .unwrap_or(text.len())
 }
 
 // The number that digits write, unless it passes 32 bits.
@@ -26,54 +21,45 @@ fn value_of(digits: &[u8]) -> Option<u32>
     requires { AllDigits digits.now }
     ensures { MatchOption result (2 ^ 32 ≤ digits_value 10 digits.now) (λ n. n ≡ digits_value 10 digits.now) }
 {
-    let mut n: u64 = 0;
+    let mut n: u32 = 0;
     for b in digits {
-        n = n * 10 + u64::from(*b - b'0');
-        if n > u64::from(u32::MAX) {
-            return None;
-        }
+        n = n.checked_mul(10)?.checked_add(u32::from(*b - b'0'))?;
     }
-    Some(n as u32)
+    Some(n)
 }
 
 // The number that the text begins with, and the rest of the text.
 fn number(text: &[u8]) -> Option<(u32, &[u8])>
     ensures { MatchOption result ((n : ℕ) (rest : List ℕ) → Begins text.now n rest → ⊥) (λ t. Begins text.now t.0 t.1.now) }
 {
-    let len = digits(text);
-    if len == 0 {
-        return None;
+    let (front, rest) = text.split_at(digits(text));
+    match front {
+        // Only 0 itself begins with a zero, so that a number has one text.
+        [] | [b'0', _, ..] => None,
+        _ => Some((value_of(front)?, rest)),
     }
-    // Only 0 itself begins with a zero, so that a number has one text.
-    if len > 1 && text[0] == ZERO {
-        return None;
-    }
-    let (front, rest) = text.split_at(len);
-    Some((value_of(front)?, rest))
 }
 
 // The number that the text begins with after one space, and the rest of the text.
 fn field(text: &[u8]) -> Option<(u32, &[u8])>
     ensures { MatchOption result ((n : ℕ) (rest : List ℕ) → Spaced text.now n rest → ⊥) (λ t. Spaced text.now t.0 t.1.now) }
 {
-    if text.len() == 0 || text[0] != b' ' {
+    let [b' ', after @ ..] = text else {
         return None;
-    }
-    number(&text[1..])
+    };
+    number(after)
 }
 
 // The N numbers that the text is, each after one space.
 fn spaced<const N: usize>(text: &[u8]) -> Option<[u32; N]>
     ensures { MatchOption result ((ns : List ℕ) → Lists N text.now ns → ⊥) (λ a. Lists N text.now a) }
 {
-    let mut all = [0u32; N];
+    let mut all = [0; N];
     let mut left = text;
-    for i in 0..N {
-        let (n, rest) = field(left)?;
-        all[i] = n;
-        left = rest;
+    for n in all.iter_mut() {
+        (*n, left) = field(left)?;
     }
-    if left.is_empty() { Some(all) } else { None }
+    left.is_empty().then_some(all)
 }
 
 // The line of one number that a letter begins.
@@ -91,16 +77,13 @@ fn line_of(letter: u8, number: u32) -> Option<Line>
     }
 }
 
+// A function and no `TryFrom`: there is nothing to tell of a text that is no line.
 /// The line that the bytes are the text of; the line feed that ends it is not among them.
 pub fn read_line(text: &[u8]) -> Option<Line>
     ensures reads { Reads text.now result }
     ensures one { OneText text.now result }
 {
-    if text.len() == 0 {
-        return None;
-    }
-    let letter = text[0];
-    let rest = &text[1..];
+    let (&letter, rest) = text.split_first()?;
     match letter {
         b'X' => {
             let [] = spaced::<0>(rest)?;

@@ -26,6 +26,7 @@ pub enum Refusal {
 
 impl Refusal {
     /// The number by which the refusal is told.
+    // A method and no `From`: it is asked of every kind of fault by this name.
     pub fn number(self) -> u8
         ensures { result ≡ number_of self }
     {

@@ -9,96 +9,103 @@ use crate::refusal::Refusal;
 /// line feed one. A shorter output list is refused, whatever the answer.
 pub const ROOM: usize = 64;
 
-// Writes one byte, and answers the place after it.
-fn put(out: &mut [u8], at: usize, b: u8) -> usize
-    requires { at < length out.old }
-    ensures { Wrote out.old at (b ∷ []) out.new result }
-{
-    out[at] = b;
-    at + 1
+// An output list, and the place where its next byte goes.
+#[derive(Drop)]
+struct Pen<'a> {
+    out: &'a mut [u8],
+    at: usize,
 }
 
-fn put_number(out: &mut [u8], at: usize, n: u64) -> usize
-    requires { at + length (decimal n) ≤ length out.old }
-    ensures { Wrote out.old at (decimal n) out.new result }
-{
-    if n < 10 {
-        return put(out, at, b'0' + n as u8);
+impl Pen<'_> {
+    fn byte(&mut self, byte: u8)
+        requires { self.old.at < length self.old.out.now }
+        ensures { Wrote self.old (byte ∷ []) self.new }
+    {
+        self.out[self.at] = byte;
+        self.at += 1;
     }
-    let next = put_number(out, at, n / 10);
-    put(out, next, b'0' + (n % 10) as u8)
-}
 
-fn put_text(out: &mut [u8], at: usize, text: &[u8]) -> usize
-    requires { at + length text.now ≤ length out.old }
-    ensures { Wrote out.old at text.now out.new result }
-{
-    let mut next = at;
-    for b in text {
-        next = put(out, next, *b);
+    fn text(&mut self, text: &[u8])
+        requires { self.old.at + length text.now ≤ length self.old.out.now }
+        ensures { Wrote self.old text.now self.new }
+    {
+        let end = self.at + text.len();
+        self.out[self.at..end].copy_from_slice(text);
+        self.at = end;
     }
-    next
-}
 
-// Each number after one space.
-fn put_fields(out: &mut [u8], at: usize, numbers: &[u64]) -> usize
-    requires { at + length (fields numbers.now) ≤ length out.old }
-    ensures { Wrote out.old at (fields numbers.now) out.new result }
-{
-    let mut next = at;
-    for n in numbers {
-        next = put(out, next, b' ');
-        next = put_number(out, next, *n);
+    fn number(&mut self, n: u64)
+        requires { self.old.at + length (decimal n) ≤ length self.old.out.now }
+        ensures { Wrote self.old (decimal n) self.new }
+    {
+        self.text(itoa::Buffer::new().format(n).as_bytes());
     }
-    next
-}
 
-// A number and at most two more, with one space between them.
-fn put_numbers(out: &mut [u8], first: u64, others: &[u64]) -> usize
-    requires { (64 ≤ length out.old) × (length others.now ≤ 2) }
-    ensures { (result < 64) × Wrote out.old 0 (decimal first ++ fields others.now) out.new result }
-{
-    let next = put_number(out, 0, first);
-    put_fields(out, next, others)
-}
+    // Each number after one space.
+    fn fields(&mut self, numbers: &[u64])
+        requires { self.old.at + length (fields numbers.now) ≤ length self.old.out.now }
+        ensures { Wrote self.old (fields numbers.now) self.new }
+    {
+        for n in numbers {
+            self.byte(b' ');
+            self.number(*n);
+        }
+    }
 
-// The letter E, and at most two numbers.
-fn put_error(out: &mut [u8], numbers: &[u64]) -> usize
-    requires { (64 ≤ length out.old) × (length numbers.now ≤ 2) }
-    ensures { (result < 64) × Wrote out.old 0 (69 ∷ fields numbers.now) out.new result }
-{
-    let next = put(out, 0, b'E');
-    put_fields(out, next, numbers)
-}
+    // A number and at most two more, with one space between them.
+    fn numbers(&mut self, first: u64, others: &[u64])
+        requires room { self.old.at + 62 ≤ length self.old.out.now }
+        requires few { length others.now ≤ 2 }
+        ensures short { self.new.at ≤ self.old.at + 62 }
+        ensures wrote { Wrote self.old (decimal first ++ fields others.now) self.new }
+    {
+        self.number(first);
+        self.fields(others);
+    }
 
-// The answer without its line feed, which still has room.
-fn put_body(out: &mut [u8], answer: &Answer) -> usize
-    requires { 64 ≤ length out.old }
-    ensures { (result < 64) × Wrote out.old 0 (body answer.now) out.new result }
-{
-    match *answer {
-        Answer::Done => put_text(out, 0, b"ok"),
-        Answer::Number(n) => put_number(out, 0, n),
-        Answer::Longest(None) => put_text(out, 0, b"none"),
-        Answer::Longest(Some(outage)) => put_numbers(
-            out,
-            u64::from(outage.minutes),
-            &[u64::from(outage.section)],
-        ),
-        Answer::Trial(flow, load, product) => put_numbers(out, flow, &[load, product]),
-        Answer::Indices(saifi, saidi, eens) => put_numbers(out, saifi, &[saidi, eens]),
-        Answer::Refused(refusal) => put_error(out, &[u64::from(refusal.number())]),
-        Answer::Fault { number, place } => put_error(out, &[u64::from(number), place as u64]),
+    // The letter E, and at most two numbers.
+    fn error(&mut self, numbers: &[u64])
+        requires room { self.old.at + 62 ≤ length self.old.out.now }
+        requires few { length numbers.now ≤ 2 }
+        ensures short { self.new.at ≤ self.old.at + 62 }
+        ensures wrote { Wrote self.old (69 ∷ fields numbers.now) self.new }
+    {
+        self.byte(b'E');
+        self.fields(numbers);
+    }
+
+    // The answer without its line feed.
+    fn body(&mut self, answer: &Answer)
+        requires { self.old.at + 62 ≤ length self.old.out.now }
+        ensures short { self.new.at ≤ self.old.at + 62 }
+        ensures wrote { Wrote self.old (body answer.now) self.new }
+    {
+        match *answer {
+            Answer::Done => self.text(b"ok"),
+            Answer::Number(n) => self.number(n),
+            Answer::Longest(None) => self.text(b"none"),
+            Answer::Longest(Some(outage)) => self.numbers(
+                u64::from(outage.minutes),
+                &[u64::from(outage.section)],
+            ),
+            Answer::Trial(flow, load, product) => self.numbers(flow, &[load, product]),
+            Answer::Indices(saifi, saidi, eens) => self.numbers(saifi, &[saidi, eens]),
+            Answer::Refused(refusal) => self.error(&[u64::from(refusal.number())]),
+            Answer::Fault { number, place } => self.error(&[u64::from(number), place as u64]),
+        }
     }
 }
 
 /// Writes the answer and a line feed to the front of the output list, and answers how many bytes these are.
+// Answer is no Display: the clause of that trait does not rule out an Err, and only a short list is refused here.
 pub fn write_answer(answer: &Answer, out: &mut [u8]) -> Result<usize, Refusal>
     ensures { Answered answer.now out.old result out.new }
 {
     if out.len() < ROOM {
         return Err(Refusal::Short);
     }
-    let end = put_body(out, answer);
-    Ok(put(out, end, b'\n'))
+    let mut pen = Pen { out, at: 0 };
+    pen.body(answer);
+    pen.byte(b'\n');
+    Ok(pen.at)
 }

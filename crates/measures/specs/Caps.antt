@@ -1,13 +1,12 @@
 -- Equality of capped numbers, and the laws of Minutes and Count.
-use Rattle.std.specs.Prelude.{◌≡◌, ℕ, ◌+◌, ◌-◌, ◌*◌, ◌^◌, ◌<◌, ◌≤◌, min, refl}
+use Rattle.std.specs.Prelude.{◌≡◌, ℕ, ◌*◌, ◌^◌, ◌<◌, ◌≤◌, min, refl}
 use Rattle.std.proofs.Common.{ap, subst, arith, mul-le-mul, mul-le-mul_left}
 use Rattle.std.proofs.Math.Bridge.{le_prop}
-use Rattle.feeder.specs.declared.section.Figures.{Figures}
-use Rattle.feeder.specs.Feeder.{Ranges}
-use Rattle.feeder.specs.Measure.{Meaning, Lawful}
+use Rattle.feeder.specs.Measure.{Lawful}
 use Rattle.feeder.specs.Weighed.{Weighs}
 use Rattle.measures.specs.declared.capped.Capped.{Capped}
-use Rattle.measures.specs.Capped.{cap, sum, minutes, count}
+use Rattle.measures.specs.Capped.{Amounts, minutes_amounts, count_amounts, minutes, count}
+use Rattle.measures.specs.Additive.{Parted, Bounded, Additive, sums}
 
 abbrev mk : (n : ℕ) → n < 2 ^ 64 → Capped
 mk n h = record { value = n; fits = h }
@@ -21,20 +20,15 @@ same a b e =
 pub times : (r t u : ℕ) → t ≤ u → r * t ≤ r * u
 times r t u h = mul-le-mul_left r h
 
-abbrev sums : (ℕ → Figures → ℕ → ℕ → ℕ) → (ℕ → Figures → ℕ → ℕ) → Meaning Capped
-sums e x = record { nothing = cap 0; join = sum; effect = λ k d s t. cap (e k d s t); extra = λ k d s. cap (x k d s) }
-
 -- any measure by capped sums has the laws of the joining
-pub by_sums : (e : ℕ → Figures → ℕ → ℕ → ℕ) (x : ℕ → Figures → ℕ → ℕ)
-    → ((k : ℕ) (d : Figures) (s : ℕ) → Ranges k d s → e k d s (min d.repair s) + x k d s ≡ e k d s d.repair) → Lawful (sums e x)
-by_sums e x far = record {
+pub by_sums : (a : Amounts) → Parted a → Lawful (sums a)
+by_sums a parts = record {
   joining = record { assoc = λ a b c. same _ _ (omega arith); comm = λ a b. same _ _ (omega arith); unit = λ a. same _ _ (omega arith) };
-  parts = λ k d s r. same _ _ (omega (arith, far k d s r));
+  parts = λ k d s r. same _ _ (omega (arith, parts k d s r));
 }
 
-pub sums_weigh : (e : ℕ → Figures → ℕ → ℕ → ℕ) (x : ℕ → Figures → ℕ → ℕ)
-    → ((k : ℕ) (d : Figures) (s t : ℕ) → Ranges k d s → t ≤ 10080 → e k d s t ≤ 1008000000) → Weighs (sums e x) (λ v. v.value)
-sums_weigh e x most = record {
+pub sums_weigh : (a : Amounts) → Bounded a → Weighs (sums a) (λ v. v.value)
+sums_weigh a most = record {
   same = same;
   nothing = refl;
   join = λ a b. refl;
@@ -42,15 +36,23 @@ sums_weigh e x most = record {
   far = λ k d s r. omega (arith, most k d s (min d.repair s) r (omega (arith, r.repair_most)));
 }
 
+pub minutes_additive : Additive minutes_amounts
+minutes_additive = record {
+  parts = λ k d s r. omega (arith, times d.rate (min d.repair s) d.repair (omega arith));
+  most = λ k d s t r l. mul-le-mul r.rate l;
+}
+
+pub count_additive : Additive count_amounts
+count_additive = record { parts = λ k d s r. omega arith; most = λ k d s t r l. omega (arith, r.rate) }
+
 pub minutes_lawful : Lawful minutes
-minutes_lawful = by_sums (λ k d s t. d.rate * t) (λ k d s. d.rate * d.repair - d.rate * min d.repair s)
-    (λ k d s r. omega (arith, times d.rate (min d.repair s) d.repair (omega arith)))
+minutes_lawful = by_sums minutes_amounts minutes_additive.parts
 
 pub count_lawful : Lawful count
-count_lawful = by_sums (λ k d s t. d.rate) (λ k d s. 0) (λ k d s r. omega arith)
+count_lawful = by_sums count_amounts count_additive.parts
 
 pub minutes_weighs : Weighs minutes (λ v. v.value)
-minutes_weighs = sums_weigh (λ k d s t. d.rate * t) (λ k d s. d.rate * d.repair - d.rate * min d.repair s) (λ k d s t r l. mul-le-mul r.rate l)
+minutes_weighs = sums_weigh minutes_amounts minutes_additive.most
 
 pub count_weighs : Weighs count (λ v. v.value)
-count_weighs = sums_weigh (λ k d s t. d.rate) (λ k d s. 0) (λ k d s t r l. omega (arith, r.rate))
+count_weighs = sums_weigh count_amounts count_additive.most

@@ -1,3 +1,4 @@
 pub mod Capped
+pub mod Additive
 pub mod Longest
 pub mod Caps

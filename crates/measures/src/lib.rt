@@ -1,6 +1,7 @@
 // What a study measures: the interface of a measure, and Minutes, Count and Longest behind it.
 #![tactic(auto)]
 
+mod additive;
 mod capped;
 mod count;
 mod longest;
@@ -10,6 +11,7 @@ mod outage;
 mod sums;
 mod weighed;
 
+pub use additive::Additive;
 pub use capped::Capped;
 pub use count::Count;
 pub use longest::Longest;

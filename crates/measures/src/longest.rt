@@ -7,7 +7,7 @@ use crate::outage::Outage;
 use feeder::Figures;
 
 /// The longer of two outages, on equal times that of the lower section; `None` where no fault has a rate.
-#[derive(Clone, Copy)]
+#[derive(Clone, Copy, Debug)]
 pub struct Longest;
 
 impl Measure for Longest {
@@ -25,6 +25,7 @@ impl Measure for Longest {
         match (a, b) {
             (None, b) => b,
             (Some(x), None) => Some(x),
+            // No `Ord` on `Outage`: its order would put the lower section above the higher, which no reader of `<` expects.
             (Some(x), Some(y)) => {
                 if y.minutes < x.minutes || (x.minutes == y.minutes && x.section <= y.section) {
                     Some(x)

@@ -4,7 +4,7 @@
 mod prolonged;
 
 use engine::Study;
-use feeder::Section;
+use feeder::{MOST_SECTIONS, Section};
 use measures::{Capped, Measure};
 use prolonged::Prolonged;
 use std::fs;
@@ -12,7 +12,7 @@ use sweeps::By;
 
 fn main(rt: HostRuntime) -> anyhow::Result<()> {
     let archive = fs::read(&rt, "feeder.arc")?;
-    let mut list = [Section::BLANK; 1024];
+    let mut list = [Section::BLANK; MOST_SECTIONS];
     let mut study = Study::open(&mut list);
     if study.load(&archive).is_err() {
         println!(rt; "refused")?;

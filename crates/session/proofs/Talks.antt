@@ -1,20 +1,20 @@
 -- A session, line by line. Assumes nothing.
-use Rattle.std.proofs.Common.{◌≡◌, ℕ, ◌+◌, ◌<◌, ◌≤◌, List, [], ◌∷◌, ◌++◌, length, take, drop, replicate, Some, None, Ok, Option, sym, refl, ap, ◌∙◌, subst, ap₂, append_assoc, append-nil, arith, length-take, drop-drop}
+use Rattle.std.proofs.Common.{◌≡◌, ℕ, ◌+◌, ◌<◌, ◌≤◌, List, [], ◌∷◌, ◌++◌, length, take, drop, replicate, Some, None, Ok, Err, Option, Result, sym, refl, ap, ◌∙◌, subst, ap₂, append_assoc, append-nil, arith, length-take, drop-drop}
 use Rattle.std.specs.List.{between}
+use Rattle.std.specs.Result.{MatchResult, result_unwrap_or}
+use Rattle.lines.specs.declared.refusal.Refusal.{Refusal}
 use Rattle.std.specs.Option.{option_to_list}
 use Rattle.feeder.specs.Feeder.{Feeder}
 use Rattle.lines.specs.declared.line.Line.{Line}
 use Rattle.lines.specs.Answers.{answer_text}
 use Rattle.lines.specs.Lines.{Reads}
-use Rattle.stream.specs.declared.input.Input.{Input}
-use Rattle.stream.specs.declared.input.Input.TheVariants as input
 use Rattle.stream.specs.Streams.{held, Fed, Feeds, Ended, Delivers, DeliversAll}
 use Rattle.console.specs.Laws.{Lined}
 use Rattle.console.specs.Replies.{said, moved}
 use Rattle.console.proofs.Longest.{too_long}
 use Rattle.console.proofs.Steps.{step_moved}
 use Rattle.session.specs.declared.session.Session.{Session}
-use Rattle.session.specs.Talks.{Talk, Conversation, InputReads, InputTalk, Talked, Talks, Replied, Heard}
+use Rattle.session.specs.Talks.{Input, Talk, Conversation, InputReads, InputTalk, Talked, Talks, Replied, Heard}
 use Rattle.session.proofs.Parts.{between_join}
 
 -- one more line
@@ -52,8 +52,8 @@ talked_none f g bs out xs s t k feeds = record {
 
 -- what is handed out tells of the lines
 read_of : (l : List ℕ) (d : Input) (o : Option Line) → Delivers l d → InputReads d o → Reads l o
-read_of l (input.Line t) o h r = subst (λ (xs : List ℕ). Reads xs o) h.1 r
-read_of l input.TooLong o h r = subst (λ (p : Option Line). Reads l p) (sym r) (too_long l h)
+read_of l (Ok t) o h r = subst (λ (xs : List ℕ). Reads xs o) h.1 r
+read_of l (Err e) o h r = subst (λ (p : Option Line). Reads l p) (sym r) (too_long l h)
 
 talk_of : (ls : List (List ℕ)) (ds : List Input) (f g : Feeder) (out : List ℕ) → DeliversAll ls ds → InputTalk f ds out g → Talk f ls out g
 talk_of [] [] f g out h t = t
@@ -82,15 +82,20 @@ none_read xs (Some l) h r = absurd (h l r)
 
 -- what was read of a line as it was handed out, from what holds of every line that it may have been
 pub heard : (i : Input) (before : List ℕ) (f : Feeder) (n : ℕ) (after : List ℕ) (g : Feeder) → ((l : List ℕ) → Delivers l i → Lined l before f (Ok n) after g) → Heard i before f n after g
-heard (input.Line t) before f n after g h =
+heard (Ok t) before f n after g h =
     let m = t.fits in
     let k = h (held t) (omega (arith, length-take t.count t.bytes, m), refl) in
     record { line = k.line; reads = k.reads; size = k.answer.size; small = k.answer.small; list = k.answer.list; feeder = step_moved k.line f g before after (Ok n) k.answer.room k.step }
-heard input.TooLong before f n after g h =
+heard (Err e) before f n after g h =
     let xs : List ℕ = replicate 65 0 in
     let l : 64 < length xs = omega arith in
     let k = h xs l in
     record { line = k.line; reads = none_read xs k.line (too_long xs l) k.reads; size = k.answer.size; small = k.answer.small; list = k.answer.list; feeder = step_moved k.line f g before after (Ok n) k.answer.room k.step }
+
+-- a call with room for every answer gives the answer's length
+pub never_short : (r : Result ℕ Refusal) (room : ℕ) → MatchResult r (λ n. n ≤ room) (λ _. room < 64) → 64 ≤ room → r ≡ Ok (result_unwrap_or r 0)
+never_short (Ok n) room h l = refl
+never_short (Err e) room h l = absurd (omega (arith, h, l))
 
 talked_same : (f : Feeder) (a a' b b' : List ℕ) (s : Session) (g g' : Feeder) → a ≡ a' → b ≡ b' → g ≡ g' → Talked f a b s g → Talked f a' b' s g'
 talked_same f a a' b b' s g g' p q r t =

@@ -1,12 +1,12 @@
 -- A whole session: from the bytes that came in to the bytes that went out. Assumes nothing.
-use Rattle.std.specs.Prelude.{◌≡◌, ℕ, ◌+◌, ◌<◌, ◌≤◌, List, [], ◌∷◌, ◌++◌, length, take, drop, None, Option}
+use Rattle.std.specs.Prelude.{◌≡◌, ℕ, ◌+◌, ◌<◌, ◌≤◌, List, [], ◌∷◌, ◌++◌, length, take, drop, None, Ok, Err, Option, Result}
 use Rattle.std.specs.List.{AllByRecursion}
 use Rattle.feeder.specs.Feeder.{Feeder}
 use Rattle.lines.specs.declared.line.Line.{Line}
 use Rattle.lines.specs.Answers.{answer_text}
 use Rattle.lines.specs.Lines.{Reads}
-use Rattle.stream.specs.declared.input.Input.{Input}
-use Rattle.stream.specs.declared.input.Input.TheVariants as input
+use Rattle.stream.specs.declared.text.Text.{Text}
+use Rattle.stream.specs.declared.text.TooLong.{TooLong}
 use Rattle.stream.specs.Streams.{held, Fed, Plain, stream, last_line}
 use Rattle.console.specs.Replies.{said, moved}
 use Rattle.session.specs.declared.session.Session.{Session}
@@ -26,10 +26,14 @@ pub record Conversation (f : Feeder) (bs out : List ℕ) (g : Feeder) : Type 0 w
   pub plain_last : Plain last
   pub talk : Talk f (lines ++ last_line last) out g
 
+-- a line as a stream hands it out
+abbrev pub Input : Type 0
+Input = Result Text TooLong
+
 -- what is read of a line as it is handed out; one that is too long is no line
 abbrev pub InputReads : Input → Option Line → Type 0
-InputReads (input.Line t) o = Reads (held t) o
-InputReads input.TooLong o = o ≡ None
+InputReads (Ok t) o = Reads (held t) o
+InputReads (Err e) o = o ≡ None
 
 abbrev pub InputTalk : Feeder → List Input → List ℕ → Feeder → Type 0
 InputTalk f [] out g = (out ≡ []) × (g ≡ f)

@@ -6,24 +6,26 @@ ghost use Rattle.session.specs.Talks.{Heard, Replied};
 use console::answer_input;
 use engine::Study;
 use lines::ROOM;
-use stream::Input;
+use stream::{Text, TooLong};
 
 // Each line is given an output list of just the room that every answer fits, wherever in the output its answer comes to stand, so
 // that the same line is the same entry of a log.
-fn reply_in_front(study: &mut Study, input: &Input, out: &mut [u8]) -> usize
+fn reply_in_front(study: &mut Study, input: &Result<Text, TooLong>, out: &mut [u8]) -> usize
     requires { 64 ≤ length out.old }
     ensures heard { Heard input.now out.old (feeder_of study.old) result out.new (feeder_of study.new) }
     ensures rest { beyond study.new ≡ beyond study.old }
 {
     let part = &mut out[..ROOM];
-    match answer_input(study, input, part) {
-        Ok(n) => n,
-        Err(_) => 0,
-    }
+    answer_input(study, input, part).unwrap_or(0)
 }
 
 // Answers one line behind the first `used` bytes of `out`, which stay.
-pub(crate) fn reply(study: &mut Study, input: &Input, out: &mut [u8], used: usize) -> usize
+pub(crate) fn reply(
+    study: &mut Study,
+    input: &Result<Text, TooLong>,
+    out: &mut [u8],
+    used: usize,
+) -> usize
     requires { used + 64 ≤ length out.old }
     ensures replied { Replied input.now out.old used (feeder_of study.old) result out.new (feeder_of study.new) }
     ensures rest { beyond study.new ≡ beyond study.old }

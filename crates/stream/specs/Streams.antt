@@ -1,10 +1,9 @@
 -- A stream of bytes as lines that end in line feeds, and a last one that does not.
-use Rattle.std.specs.Prelude.{◌≡◌, ℕ, ◌<◌, ◌≤◌, Bool, true, false, List, [], ◌∷◌, ◌++◌, length, take, None, Option, ◌≢◌}
+use Rattle.std.specs.Prelude.{◌≡◌, ℕ, ◌<◌, ◌≤◌, List, [], ◌∷◌, ◌++◌, length, take, None, Option, Ok, Err, Result, ◌≢◌}
 use Rattle.std.specs.List.{AllByRecursion}
 use Rattle.std.specs.Option.{option_to_list}
 use Rattle.stream.specs.declared.text.Text.{Text}
-use Rattle.stream.specs.declared.input.Input.{Input}
-use Rattle.stream.specs.declared.input.Input.TheVariants.{Line, TooLong}
+use Rattle.stream.specs.declared.text.TooLong.{TooLong}
 use Rattle.stream.specs.declared.lines.Lines.{Lines}
 
 -- the bytes of a text
@@ -12,9 +11,9 @@ abbrev pub held : Text → List ℕ
 held t = take t.count t.bytes
 
 -- what adding the byte b leaves of a text that was, and whether it had room
-abbrev pub Added : List ℕ → ℕ → Bool → List ℕ → Type 0
-Added was b true after = (length was < 64) × (after ≡ was ++ (b ∷ []))
-Added was b false after = (length was ≡ 64) × (after ≡ was)
+abbrev pub Added : List ℕ → ℕ → Result (Unit {0}) TooLong → List ℕ → Type 0
+Added was b (Ok u) after = (length was < 64) × (after ≡ was ++ (b ∷ []))
+Added was b (Err e) after = (length was ≡ 64) × (after ≡ was)
 
 -- no line feed
 abbrev pub Plain : List ℕ → Type 0
@@ -26,26 +25,22 @@ stream [] last = last
 stream (l ∷ ls) last = l ++ (10 ∷ stream ls last)
 
 -- d is what is handed out for the line l: its bytes, or word that there are more than 64
-abbrev pub Delivers : List ℕ → Input → Type 0
-Delivers l (Line t) = (length l ≤ 64) × (held t ≡ l)
-Delivers l TooLong = 64 < length l
+abbrev pub Delivers : List ℕ → Result Text TooLong → Type 0
+Delivers l (Ok t) = (length l ≤ 64) × (held t ≡ l)
+Delivers l (Err e) = 64 < length l
 
-abbrev pub DeliversAll : List (List ℕ) → List Input → Type 0
+abbrev pub DeliversAll : List (List ℕ) → List (Result Text TooLong) → Type 0
 DeliversAll [] [] = Unit {0}
 DeliversAll [] (d ∷ ds) = ⊥
 DeliversAll (l ∷ ls) [] = ⊥
 DeliversAll (l ∷ ls) (d ∷ ds) = Delivers l d × DeliversAll ls ds
 
--- part is what has come of the line being read: the bytes of the text, or more than the 64 that it has room for
-abbrev pub Kept : Bool → List ℕ → List ℕ → Type 0
-Kept false text part = text ≡ part
-Kept true text part = (length text ≡ 64) × (64 < length part)
-
+-- part is what has come of the line being read: the bytes of the text, or more than the 64 that one has room for
 abbrev pub Holds : Lines → List ℕ → Type 0
-Holds s part = Kept s.long (held s.text) part
+Holds s part = Delivers part s.line
 
 -- The bytes bs have been fed, ds was handed out, and s is what is kept.
-pub record Fed (bs : List ℕ) (ds : List Input) (s : Lines) : Type 0 where
+pub record Fed (bs : List ℕ) (ds : List (Result Text TooLong)) (s : Lines) : Type 0 where
   pub lines : List (List ℕ)
   pub part : List ℕ
   pub whole : bs ≡ stream lines part
@@ -55,8 +50,8 @@ pub record Fed (bs : List ℕ) (ds : List Input) (s : Lines) : Type 0 where
   pub kept : Holds s part
 
 -- Feeding xs in the state s handed out line, if any, and left the state t.
-abbrev pub Feeds : Lines → List ℕ → Option Input → Lines → Type 0
-Feeds s xs line t = (bs : List ℕ) (ds : List Input) → Fed bs ds s → Fed (bs ++ xs) (ds ++ option_to_list line) t
+abbrev pub Feeds : Lines → List ℕ → Option (Result Text TooLong) → Lines → Type 0
+Feeds s xs line t = (bs : List ℕ) (ds : List (Result Text TooLong)) → Fed bs ds s → Fed (bs ++ xs) (ds ++ option_to_list line) t
 
 -- a last line without a line feed counts if it is not empty
 abbrev pub last_line : List ℕ → List (List ℕ)
@@ -64,7 +59,7 @@ last_line [] = []
 last_line (b ∷ bs) = (b ∷ bs) ∷ []
 
 -- The stream was bs, and ds is all that was handed out.
-pub record Ended (bs : List ℕ) (ds : List Input) : Type 0 where
+pub record Ended (bs : List ℕ) (ds : List (Result Text TooLong)) : Type 0 where
   pub lines : List (List ℕ)
   pub last : List ℕ
   pub whole : bs ≡ stream lines last
@@ -73,11 +68,11 @@ pub record Ended (bs : List ℕ) (ds : List Input) : Type 0 where
   pub gave : DeliversAll (lines ++ last_line last) ds
 
 -- a stream is parted into lines in one way: however bs is parted, these lines are what was handed out
-abbrev pub OneParting : List ℕ → List Input → Type 0
+abbrev pub OneParting : List ℕ → List (Result Text TooLong) → Type 0
 OneParting bs ds = (ls : List (List ℕ)) (last : List ℕ) → bs ≡ stream ls last → AllByRecursion Plain ls → Plain last → DeliversAll (ls ++ last_line last) ds
 
 -- From the place from, among len bytes, feeding went to the place end, and line is what it handed out.
-pub record Goes (from len end : ℕ) (line : Option Input) : Type 0 where
+pub record Goes (from len end : ℕ) (line : Option (Result Text TooLong)) : Type 0 where
   pub forth : from ≤ end
   pub within : from ≤ len → end ≤ len
   pub moves : from < len → from < end

@@ -1,19 +1,20 @@
-ghost use Rattle.std.specs.Prelude.{ℕ, List, [], ◌∷◌, ◌++◌, length};
+ghost use Rattle.std.specs.Prelude.{ℕ, List, [], ◌∷◌, ◌++◌, length, Result};
 ghost use Rattle.std.specs.Option.{option_to_list};
 ghost use Rattle.std.specs.List.{between};
+ghost use Rattle.stream.specs.declared.text.Text.{Text};
+ghost use Rattle.stream.specs.declared.text.TooLong.{TooLong};
 ghost use Rattle.stream.specs.Streams.{Delivers, Holds, Fed, Feeds, Ended, OneParting, Goes};
 
-use crate::input::Input;
-use crate::text::Text;
+use crate::text::{Text, TooLong};
+use std::mem;
 
 // What ends a line.
 const FEED: u8 = b'\n';
 
-/// The line that is being read: what has come of it, and whether it has passed the room of a text.
+/// The line that is being read: what has come of it, while that fits a text.
 #[derive(Clone, Copy)]
 pub struct Lines {
-    text: Text,
-    long: bool,
+    line: Result<Text, TooLong>,
 }
 
 impl Lines {
@@ -22,13 +23,12 @@ impl Lines {
         ensures { Fed [] [] result }
     {
         Lines {
-            text: Text::new(),
-            long: false,
+            line: Ok(Text::new()),
         }
     }
 
     /// Feeds one byte, and hands out the line that it ends.
-    pub fn push(&mut self, byte: u8) -> Option<Input>
+    pub fn push(&mut self, byte: u8) -> Option<Result<Text, TooLong>>
         ensures { Feeds self.old (byte ∷ []) result self.new }
     {
         if byte == FEED {
@@ -41,60 +41,48 @@ impl Lines {
 
     /// Feeds the bytes from a place on, up to the first line feed or to the last byte, and answers the place after what
     /// it fed and the line that was ended. From a place past the bytes it feeds nothing and answers that place.
-    pub fn next(&mut self, bytes: &[u8], from: usize) -> (usize, Option<Input>)
+    pub fn next(&mut self, bytes: &[u8], from: usize) -> (usize, Option<Result<Text, TooLong>>)
         ensures fed { Feeds self.old (between from result.0 bytes.now) result.1 self.new }
         ensures goes { Goes from (length bytes.now) result.0 result.1 }
     {
-        let mut at = from;
-        while at < bytes.len() {
-            if let Some(line) = self.push(bytes[at]) {
-                return (at + 1, Some(line));
+        let Some(rest) = bytes.get(from..) else {
+            return (from, None);
+        };
+        for (i, byte) in rest.iter().enumerate() {
+            if let Some(line) = self.push(*byte) {
+                return (from + i + 1, Some(line));
             }
-            at += 1;
         }
-        (at, None)
+        (bytes.len(), None)
     }
 
     /// At the end of the input: the last line, where it is not empty.
-    pub fn finish(&self) -> Option<Input>
-        ensures ended { (bs : List ℕ) (ds : List Input) → Fed bs ds self.now → Ended bs (ds ++ option_to_list result) }
-        ensures one { (bs : List ℕ) (ds : List Input) → Fed bs ds self.now → OneParting bs (ds ++ option_to_list result) }
+    pub fn finish(&self) -> Option<Result<Text, TooLong>>
+        ensures ended { (bs : List ℕ) (ds : List (Result Text TooLong)) → Fed bs ds self.now → Ended bs (ds ++ option_to_list result) }
+        ensures one { (bs : List ℕ) (ds : List (Result Text TooLong)) → Fed bs ds self.now → OneParting bs (ds ++ option_to_list result) }
     {
-        if !self.long && self.text.is_empty() {
-            None
-        } else {
-            Some(self.ended())
-        }
-    }
-
-    // What is handed out for the line being read, were it to end here.
-    fn ended(&self) -> Input
-        ensures { (part : List ℕ) → Holds self.now part → Delivers part result }
-    {
-        if self.long {
-            Input::TooLong
-        } else {
-            Input::Line(self.text)
+        match &self.line {
+            Ok(text) if text.is_empty() => None,
+            line => Some(*line),
         }
     }
 
     // Hands out the line being read, and begins the next one.
-    fn end_line(&mut self) -> Input
+    fn end_line(&mut self) -> Result<Text, TooLong>
         ensures given { (part : List ℕ) → Holds self.old part → Delivers part result }
         ensures empty { Holds self.new [] }
     {
-        let done = self.ended();
-        self.text.clear();
-        self.long = false;
-        done
+        mem::replace(&mut self.line, Ok(Text::new()))
     }
 
     // One more byte of the line being read.
     fn take(&mut self, byte: u8)
         ensures { (part : List ℕ) → Holds self.old part → Holds self.new (part ++ (byte ∷ [])) }
     {
-        if !self.text.add(byte) {
-            self.long = true;
+        if let Ok(text) = &mut self.line
+            && let Err(full) = text.add(byte)
+        {
+            self.line = Err(full);
         }
     }
 }

@@ -1,14 +1,56 @@
 ghost use Rattle.std.specs.Prelude.{◌≤◌};
 
-mod held;
-
 // The most bytes that a line may have.
 const ROOM: usize = 64;
 
 /// The bytes of a line, at most 64.
+// A buffer with its length: a Vec would be on the heap, and an ArrayVec is not Copy, which this and a Lines are.
 #[derive(Clone, Copy)]
 pub struct Text {
     bytes: [u8; ROOM],
     count: usize,
     ghost fits: { count ≤ 64 },
+}
+
+/// The line had more than 64 bytes.
+#[derive(Clone, Copy, PartialEq, Eq, Debug)]
+pub struct TooLong;
+
+impl Text {
+    ghost use Rattle.std.specs.Prelude.{◌≡◌, ◌↔◌, [], IsTrue};
+    ghost use Rattle.stream.specs.Streams.{held, Added};
+
+    pub(crate) fn new() -> Text
+        ensures { held result ≡ [] }
+    {
+        Text {
+            bytes: [0; ROOM],
+            count: 0,
+        }
+    }
+
+    /// The bytes, without a line feed.
+    pub fn as_slice(&self) -> &[u8]
+        ensures { result.now ≡ held self.now }
+    {
+        &self.bytes[..self.count]
+    }
+
+    pub(crate) fn is_empty(&self) -> bool
+        ensures { IsTrue result ↔ (held self.now ≡ []) }
+    {
+        self.count == 0
+    }
+
+    // Adds a byte at the end, where there is room for it.
+    pub(crate) fn add(&mut self, byte: u8) -> Result<(), TooLong>
+        ensures { Added (held self.old) byte result (held self.new) }
+    {
+        if self.count == ROOM {
+            return Err(TooLong);
+        }
+        self.bytes[self.count] = byte;
+        self.count += 1;
+        Ok(())
+    }
 }

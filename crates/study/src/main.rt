@@ -4,8 +4,8 @@
 use archive::LoadFault;
 use console::fault_line;
 use engine::Study;
-use feeder::Section;
-use lines::ROOM;
+use feeder::{MOST_SECTIONS, Section};
+use lines::{ROOM, Refusal};
 use session::Session;
 use std::io::{ErrorKind, Read, Write};
 use std::{fs, io};
@@ -17,7 +17,7 @@ const LONGEST: u64 = 53_253;
 
 fn main(rt: HostRuntime) -> io::Result<()> {
     let archive = read_archive(&rt)?;
-    let mut list = [Section::BLANK; 1024];
+    let mut list = [Section::BLANK; MOST_SECTIONS];
     let mut study = Study::open(&mut list);
     match study.load(&archive) {
         Ok(()) => answer_all(&rt, &mut study),
@@ -32,21 +32,16 @@ fn read_archive(rt: &HostRuntime) -> io::Result<Vec<u8>> {
         Ok(file) => {
             file.take(LONGEST).read_to_end(&mut bytes)?;
         }
-        Err(e) => {
-            if e.kind() != ErrorKind::NotFound {
-                return Err(e);
-            }
-        }
+        Err(e) if e.kind() == ErrorKind::NotFound => {}
+        Err(e) => return Err(e),
     }
     Ok(bytes)
 }
 
 fn tell(rt: &HostRuntime, fault: &LoadFault) -> io::Result<()> {
     let mut out = [0u8; ROOM];
-    match fault_line(fault, &mut out) {
-        Ok(n) => rt.stdout().write_all(out.split_at(n).0),
-        Err(_) => Ok(()),
-    }
+    let told = fault_line(fault, &mut out);
+    write_front(rt, &out, told)
 }
 
 // Answers the lines of standard input. What one read brings is answered and written out before the next.
@@ -61,9 +56,15 @@ fn answer_all(rt: &HostRuntime, study: &mut Study) -> io::Result<()> {
         answer_block(rt, study, &mut session, block.split_at(n).0)?;
     }
     let mut out = [0u8; ROOM];
-    match session.finish(study, &mut out) {
-        Ok(n) => rt.stdout().write_all(out.split_at(n).0),
-        Err(_) => Ok(()),
+    let answered = session.finish(study, &mut out);
+    write_front(rt, &out, answered)
+}
+
+// Writes out what a call has put to the front of its list.
+fn write_front(rt: &HostRuntime, out: &[u8], put: Result<usize, Refusal>) -> io::Result<()> {
+    match put.ok().and_then(|n| out.get(..n)) {
+        Some(front) => rt.stdout().write_all(front),
+        None => Ok(()),
     }
 }
 
@@ -74,6 +75,7 @@ fn answer_block(
     session: &mut Session,
     block: &[u8],
 ) -> io::Result<()> {
+    // A place that moves on by as many lines as there was room to answer.
     let mut from = 0;
     while from < block.len() {
         let mut out = [0u8; 16384];

@@ -16,6 +16,10 @@ use Rattle.sweeps.specs.Weights.{weight_of}
 use Rattle.sweeps.proofs.Shares.{light}
 use Rattle.sweeps.proofs.Turns.{parent_read, parent_there}
 
+-- the weight of section i, if it is below j
+abbrev pub part : Feeder → By → ℕ → ℕ → ℕ
+part f by j i = cond (below (up f) i j) (weight_of by (figures f i)) 0
+
 module _ (f : Feeder) (S : Sound f) where
   pub T : TreeEquations f
   T = tree f S
@@ -44,12 +48,8 @@ module _ (f : Feeder) (S : Sound f) where
   pub below_none : (k j : ℕ) → k ≡ 0 → k ≢ j → false ≡ below (up f) k j
   below_none k j e ne = sym (subst (λ (x : ℕ). x ≢ j → below (up f) x j ≡ false) (sym e) (λ n. T.below_root j ∙ ne_eqb 0 j n) ne)
 
-  -- the weight of section i, if it is below j
-  abbrev pub part : By → ℕ → ℕ → ℕ
-  part by j i = cond (below (up f) i j) (weight_of by (figures f i)) 0
-
-  pub parts_small : (by : By) (j k : ℕ) → k ≤ size f → sum_over k (part by j) ≤ k * 4000
-  parts_small by j k l = sum_le 4000 k (part by j) (λ i m. cond_both (below (up f) i j) (weight_of by (figures f i)) 0 (λ x. x ≤ 4000)
+  pub parts_small : (by : By) (j k : ℕ) → k ≤ size f → sum_over k (part f by j) ≤ k * 4000
+  parts_small by j k l = sum_le 4000 k (part f by j) (λ i m. cond_both (below (up f) i j) (weight_of by (figures f i)) 0 (λ x. x ≤ 4000)
       (λ _. light by i (figures f i) f.switching (S.ranges i (omega arith))) (λ _. omega arith))
 
 -- one more entry known

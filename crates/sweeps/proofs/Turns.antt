@@ -1,8 +1,8 @@
 -- One turn of each sweep, in place. Assumes nothing.
-use Rattle.std.proofs.Common.{◌≡◌, ℕ, ◌+◌, ◌<◌, ◌≤◌, true, false, cond, ltb, ◌≢◌, List, map, length, get_or, drop, set, Some, None, sym, ap, ◌∙◌, subst, ap₂, ⊎_elim, arith, get_or-set_other, get_or-set_same}
+use Rattle.std.proofs.Common.{◌≡◌, ℕ, zero, suc, ◌+◌, ◌<◌, ◌≤◌, true, false, cond, ltb, ◌≢◌, List, ◌++◌, map, length, get_or, drop, set, Some, None, sym, ap, ◌∙◌, subst, ap₂, ⊎_elim, arith, get_or-set_other, get_or-set_same}
 use Rattle.std.proofs.lemmas.Bool.{cases_eq, cases_lt, lt-ltb, le-ltb, cond-true, cond-false}
 use Rattle.std.proofs.lemmas.List.{get_or_append_left}
-use Rattle.std.proofs.lemmas.List.FromFn.{length-map-range_with_len, get_or-map-range_with_len}
+use Rattle.std.proofs.lemmas.List.FromFn.{length-map-range_with_len, get_or-map-range_with_len, fill_by_all}
 use Rattle.std.specs.List.{range_with_len}
 use Rattle.feeder.specs.Feeder.{Feeder, Sound, up, cut, size, figures, or_zero}
 use Rattle.feeder.specs.Measure.{Meaning, Lawful}
@@ -31,6 +31,10 @@ written_holds g n xs ys d e j l =
     ap (λ zs. get_or zs j d) e
     ∙ get_or_append_left (map g (range_with_len 0 n)) (drop n xs) d j (omega (arith, length-map-range_with_len g 0 n))
     ∙ get_or-map-range_with_len g 0 n j j d l (omega arith)
+
+-- a front that is filled, before the rest of the list
+pub written_front : {V : Type 0} (g : ℕ → V) (n : ℕ) (part xs : List V) (d : V) → length part ≡ n → Holds d g n part → part ++ drop n xs ≡ written g n xs
+written_front g n part xs d long h = ap (λ ys. ys ++ drop n xs) (fill_by_all g part n d long h)
 
 -- the totals before section i, and what is held from there on
 abbrev pub risen : {V : Type 0} → Meaning V → Feeder → ℕ → ℕ → V
@@ -88,10 +92,14 @@ module _ {V : Type 0} (μ : Meaning V) (L : Lawful μ) (f : Feeder) (S : Sound f
       (λ p. risen_past (i + 1) j (omega arith) ∙ sym (risen_past i j p))
       (cases_lt j i))
 
-  pub rise_root : (xs : List V) (v : V) → size f ≤ length xs → v ≡ μ.join (far_total μ f) (get_or xs 0 μ.nothing) → Holds μ.nothing (held μ f) (size f) xs → Risen μ f 1 (set xs 0 v)
-  rise_root xs v room e h =
+  pub risen_none : (xs : List V) → Holds μ.nothing (held μ f) (size f) xs → Risen μ f 0 xs
+  risen_none xs h j l = h j l ∙ sym (risen_past 0 j (omega arith))
+
+  pub rise_root : (i : ℕ) (xs : List V) → i ≡ 0 → size f ≤ length xs → Risen μ f i xs → Risen μ f (i + 1) (set xs i (μ.join (far_total μ f) (get_or xs i μ.nothing)))
+  rise_root zero xs e room h =
       let some = S.some in
-      risen_more 0 xs v (omega arith) (e ∙ ap (μ.join (far_total μ f)) (h 0 some) ∙ sym U.root) (λ j l. h j l ∙ sym (risen_past 0 j (omega arith)))
+      risen_more 0 xs _ (omega arith) (ap (μ.join (far_total μ f)) (h 0 some ∙ risen_past 0 0 (omega arith)) ∙ sym U.root) h
+  rise_root (suc i) xs e room h = absurd (omega arith)
 
   pub rise_bare : (i p : ℕ) (xs : List V) → 0 < i → i < size f → size f ≤ length xs → cut f i ≡ false → up f i ≡ p → p < i → Risen μ f i xs →
       Risen μ f (i + 1) (set xs i (get_or xs p μ.nothing))
@@ -103,6 +111,3 @@ module _ {V : Type 0} (μ : Meaning V) (L : Lawful μ) (f : Feeder) (S : Sound f
   rise_switched i p xs pos within room c e low h =
       risen_more i xs _ (omega arith)
       (ap₂ μ.join (h p (omega arith) ∙ risen_under i p low ∙ ap (total μ f) (sym e)) (h i within ∙ risen_past i i (omega arith)) ∙ sym (U.switched i pos c)) h
-
-  pub risen_all : (i : ℕ) (xs : List V) → size f ≤ i → Risen μ f i xs → Holds μ.nothing (total μ f) (size f) xs
-  risen_all i xs e h j l = h j l ∙ risen_under i j (omega arith)

@@ -1,6 +1,7 @@
--- The feeder that a view shows. Assumes nothing.
+-- The feeder that a view shows, and its answers where a section or room is missing. Assumes nothing.
 use Rattle.std.specs.Prelude.{ℕ, cond, Some, None, Option, nat_lt}
 use Rattle.feeder.specs.Feeder.{Feeder, size}
+use Rattle.sweeps.specs.declared.asked.TooShort.{TooShort}
 use Rattle.sweeps.specs.declared.view.View.{View}
 
 abbrev pub shown : View → Feeder
@@ -9,3 +10,7 @@ shown v = record { sections = v.sections.now; switching = v.switching }
 -- a value at section j, if there is such a section
 abbrev pub if_there : {A : Type 0} → Feeder → ℕ → A → Option A
 if_there f j x = cond (nat_lt j (size f)) (Some x) None
+
+-- the one value of `TooShort`
+abbrev pub too_short : TooShort
+too_short = record {}

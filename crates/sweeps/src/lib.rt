@@ -10,5 +10,6 @@ mod up;
 mod view;
 mod weights;
 
+pub use asked::TooShort;
 pub use by::By;
 pub use view::View;

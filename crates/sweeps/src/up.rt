@@ -1,68 +1,57 @@
 // The upward sweep: the total of each node.
 ghost use Rattle.std.specs.Prelude.{◌≡◌, ℕ, ◌<◌, ◌≤◌, length};
-ghost use Rattle.feeder.specs.Feeder.{Sound};
+ghost use Rattle.feeder.specs.Feeder.{size};
 ghost use Rattle.feeder.specs.Totals.{far_total, total};
 ghost use Rattle.feeder.specs.Flows.{held};
-ghost use Rattle.sweeps.specs.Lists.{feeder, Holds, written};
+ghost use Rattle.sweeps.specs.Lists.{Holds, written};
+ghost use Rattle.sweeps.specs.Views.{shown};
 
-use crate::down::held_into;
-use feeder::Section;
+use crate::view::View;
 use measures::Measure;
 
-// Writes the total of each node to the front of `out`.
-pub(crate) fn totals_into<M: Measure>(
-    m: &M,
-    sections: &[Section],
-    switching: u16,
-    out: &mut [M::Value],
-)
-    requires sound { Sound (feeder sections.now switching) }
-    requires room { length sections.now ≤ length out.old }
-    ensures { out.new ≡ written (total (M.Measure.meaning m.now) (feeder sections.now switching)) (length sections.now) out.old }
-{
-    let n = sections.len();
-    let part = &mut out[0..n];
-    held_into(m, sections, switching, part);
-    let far = far_total(m, sections, switching);
-    spread(m, sections, switching, far, part);
-}
-
-// What every node bears: the far effects of all faults, joined.
-fn far_total<M: Measure>(m: &M, sections: &[Section], switching: u16) -> M::Value
-    requires few { length sections.now ≤ 1024 }
-    ensures { result ≡ far_total (M.Measure.meaning m.now) (feeder sections.now switching) }
-{
-    let mut sum = m.nothing();
-    for (k, section) in sections.iter().enumerate() {
-        let figures = &section.figures;
-        let far = m.effect(k as u16, figures, switching, figures.repair.min(switching));
-        sum = m.join(sum, far);
+impl View<'_> {
+    // Writes the total of each node to the front of `out`.
+    pub(crate) fn write_totals<M: Measure>(&self, m: &M, out: &mut [M::Value])
+        requires room { size (shown self.now) ≤ length out.old }
+        ensures { out.new ≡ written (total (M.Measure.meaning m.now) (shown self.now)) (size (shown self.now)) out.old }
+    {
+        let part = &mut out[..self.sections.len()];
+        self.held_into(m, part);
+        self.spread(m, self.far_total(m), part);
     }
-    sum
-}
 
-// Takes what is held at each section to the node's total, from section 0 on: each is its parent's, joined with what its own switch holds back.
-fn spread<M: Measure>(
-    m: &M,
-    sections: &[Section],
-    switching: u16,
-    far: M::Value,
-    out: &mut [M::Value],
-)
-    requires sound { Sound (feeder sections.now switching) }
-    requires long { length out.old ≡ length sections.now }
-    requires base { far ≡ far_total (M.Measure.meaning m.now) (feeder sections.now switching) }
-    requires start { Holds (M.Measure.meaning m.now).nothing (held (M.Measure.meaning m.now) (feeder sections.now switching)) (length sections.now) out.old }
-    ensures { Holds (M.Measure.meaning m.now).nothing (total (M.Measure.meaning m.now) (feeder sections.now switching)) (length sections.now) out.new }
-{
-    out[0] = m.join(far, out[0]);
-    for j in 1..sections.len() {
-        if let Some(p) = sections[j].figures.parent {
-            let above = out[p as usize];
-            if sections[j].switch {
-                out[j] = m.join(above, out[j]);
-            } else {
-                out[j] = above;
+    // What every node bears: the far effects of all faults, joined.
+    fn far_total<M: Measure>(&self, m: &M) -> M::Value
+        ensures { result ≡ far_total (M.Measure.meaning m.now) (shown self.now) }
+    {
+        let mut sum = m.nothing();
+        for (k, section) in self.sections.iter().enumerate() {
+            let figures = &section.figures;
+            let time = figures.repair.min(self.switching);
+            sum = m.join(sum, m.effect(k as u16, figures, self.switching, time));
+        }
+        sum
+    }
+
+    // Takes what is held at each section to the node's total, from section 0 on: each is its parent's, joined with what its own
+    // switch holds back.
+    fn spread<M: Measure>(&self, m: &M, far: M::Value, out: &mut [M::Value])
+        requires long { length out.old ≡ size (shown self.now) }
+        requires base { far ≡ far_total (M.Measure.meaning m.now) (shown self.now) }
+        requires start { Holds (M.Measure.meaning m.now).nothing (held (M.Measure.meaning m.now) (shown self.now)) (size (shown self.now)) out.old }
+        ensures { Holds (M.Measure.meaning m.now).nothing (total (M.Measure.meaning m.now) (shown self.now)) (size (shown self.now)) out.new }
+    {
+        for (j, section) in self.sections.iter().enumerate() {
+            match section.figures.parent {
+                None => out[j] = m.join(far, out[j]),
+                Some(p) => {
+                    let above = out[usize::from(p)];
+                    if section.switch {
+                        out[j] = m.join(above, out[j]);
+                    } else {
+                        out[j] = above;
+                    }
+                }
             }
         }
     }

@@ -1,15 +1,16 @@
-// Weighted sums of the totals, and the node of the largest.
+// Weights, weighted sums of the totals, and the node of the largest.
 ghost use Rattle.std.specs.Prelude.{◌≡◌, ℕ, ◌^◌, ◌<◌, ◌≤◌, length, slice_index_or};
-ghost use Rattle.feeder.specs.Feeder.{Sound, figures};
+ghost use Rattle.feeder.specs.Feeder.{size};
 ghost use Rattle.feeder.specs.Totals.{total};
-ghost use Rattle.feeder.specs.Weighed.{sum_over, weighted_sum};
-ghost use Rattle.sweeps.specs.Lists.{feeder, Holds};
+ghost use Rattle.feeder.specs.Weighed.{weighted_sum};
+ghost use Rattle.sweeps.specs.Lists.{Holds};
+ghost use Rattle.sweeps.specs.Views.{shown};
 ghost use Rattle.sweeps.specs.Weights.{weight_of, FirstLargest};
 
 use crate::by::By;
-use crate::up::totals_into;
-use feeder::{Figures, Section};
-use measures::{Measure, Weighed};
+use crate::view::View;
+use feeder::Figures;
+use measures::Weighed;
 
 impl By {
     /// The weight of one node.
@@ -17,75 +18,36 @@ impl By {
         ensures { result ≡ weight_of self figures.now }
     {
         match self {
-            By::Load => figures.load as u64,
-            By::Customers => figures.customers as u64,
+            By::Load => u64::from(figures.load),
+            By::Customers => u64::from(figures.customers),
         }
     }
 }
 
-// The totals as numbers, each times its node's weight, added up.
-pub(crate) fn weighted<M: Weighed>(m: &M, sections: &[Section], switching: u16, by: By) -> u64
-    requires sound { Sound (feeder sections.now switching) }
-    ensures value { result ≡ weighted_sum (M.Measure.meaning m.now) (M.Weighed.number m.now) (weight_of by) (feeder sections.now switching) }
-    ensures small { result ≤ 2 ^ 63 }
-{
-    let mut room = [m.nothing(); 1024];
-    let totals = &mut room[..];
-    totals_into(m, sections, switching, totals);
-    add_up(m, sections, switching, by, totals)
-}
-
-fn add_up<M: Weighed>(
-    m: &M,
-    sections: &[Section],
-    switching: u16,
-    by: By,
-    totals: &[M::Value],
-) -> u64
-    requires sound { Sound (feeder sections.now switching) }
-    requires room { length sections.now ≤ length totals.now }
-    requires told { Holds (M.Measure.meaning m.now).nothing (total (M.Measure.meaning m.now) (feeder sections.now switching)) (length sections.now) totals.now }
-    ensures { result ≡ weighted_sum (M.Measure.meaning m.now) (M.Weighed.number m.now) (weight_of by) (feeder sections.now switching) }
-{
-    let mut sum = 0;
-    for (k, section) in sections.iter().enumerate() {
-        sum += by.of(&section.figures) * m.number(totals[k]);
+impl View<'_> {
+    // The totals as numbers, each times its node's weight, added up.
+    pub(crate) fn add_up<M: Weighed>(&self, m: &M, by: By, totals: &[M::Value]) -> u64
+        requires room { size (shown self.now) ≤ length totals.now }
+        requires told { Holds (M.Measure.meaning m.now).nothing (total (M.Measure.meaning m.now) (shown self.now)) (size (shown self.now)) totals.now }
+        ensures { result ≡ weighted_sum (M.Measure.meaning m.now) (M.Weighed.number m.now) (weight_of by) (shown self.now) }
+    {
+        self.sections
+            .iter()
+            .zip(totals)
+            .map(|(section, total)| by.of(&section.figures) * m.number(*total))
+            .sum()
     }
-    sum
 }
 
-// The weight of all nodes, added up.
-pub(crate) fn weight_all(sections: &[Section], switching: u16, by: By) -> u64
-    requires sound { Sound (feeder sections.now switching) }
-    ensures { result ≡ sum_over (length sections.now) (λ k. weight_of by (figures (feeder sections.now switching) k)) }
-{
-    let mut sum = 0;
-    for section in sections {
-        sum += by.of(&section.figures);
-    }
-    sum
-}
-
-// The node with the largest total, the lowest on equals.
-pub(crate) fn worst<M: Weighed>(m: &M, sections: &[Section], switching: u16) -> usize
-    requires sound { Sound (feeder sections.now switching) }
-    ensures { FirstLargest (λ j. M.Weighed.number m.now (total (M.Measure.meaning m.now) (feeder sections.now switching) j)) (length sections.now) result }
-{
-    let mut room = [m.nothing(); 1024];
-    let totals = &mut room[..];
-    totals_into(m, sections, switching, totals);
-    largest(m, sections.len(), totals)
-}
-
-fn largest<M: Weighed>(m: &M, n: usize, totals: &[M::Value]) -> usize
-    requires some { 1 ≤ n }
-    requires room { n ≤ length totals.now }
-    ensures { FirstLargest (λ j. M.Weighed.number m.now (slice_index_or totals.now j (M.Measure.meaning m.now).nothing)) n result }
+// Where the largest number stands, the first on equals.
+pub(crate) fn largest<M: Weighed>(m: &M, totals: &[M::Value]) -> usize
+    requires some { 1 ≤ length totals.now }
+    ensures { FirstLargest (λ j. M.Weighed.number m.now (slice_index_or totals.now j (M.Measure.meaning m.now).nothing)) (length totals.now) result }
 {
     let mut at = 0;
     let mut most = m.number(totals[0]);
-    for k in 1..n {
-        let number = m.number(totals[k]);
+    for (k, total) in totals.iter().enumerate() {
+        let number = m.number(*total);
         if number > most {
             at = k;
             most = number;

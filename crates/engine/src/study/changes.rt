@@ -1,4 +1,4 @@
-// The three changes.
+// The three changes, each by a call of its own, and any of them as a value.
 ghost use Rattle.std.specs.Prelude.{◌≡◌, MatchResult, OnOk};
 ghost use Rattle.lines.specs.declared.change.Change.TheVariants.{Fit, Unfit, Set};
 ghost use Rattle.engine.specs.Changes.{direct, gave};
@@ -8,7 +8,7 @@ ghost use Rattle.engine.specs.Studies.{feeder_of, beyond};
 
 use super::Study;
 use feeder::Figures;
-use lines::Refusal;
+use lines::{Change, Refusal};
 
 impl Study<'_> {
     /// Fits a switch at the upper end of section `k`.
@@ -30,13 +30,7 @@ impl Study<'_> {
         ensures logged { Extends (feeder_of self.old) (changed (direct (Unfit k)) (gave result)) (feeder_of self.new) }
         ensures rest { beyond self.new ≡ beyond self.old }
     {
-        let at = k as usize;
-        if at >= self.count {
-            return Err(Refusal::NoSection);
-        }
-        if at == 0 {
-            return Err(Refusal::Root);
-        }
+        let at = self.index_below_root(k)?;
         if !self.lent.list[at].switch {
             return Err(Refusal::Clear);
         }
@@ -60,20 +54,34 @@ impl Study<'_> {
         if rate > 100000 || quarters < 1 || quarters > 672 || customers > 4000 || load > 4000 {
             return Err(Refusal::Range);
         }
-        let at = k as usize;
-        if at >= self.count {
-            return Err(Refusal::NoSection);
-        }
+        let at = self.index(k)?;
         let was = self.lent.list[at].figures;
         self.lent.list[at].figures = Figures {
-            parent: was.parent,
             rate,
             repair: 15 * quarters as u16,
             customers: customers as u16,
             load: load as u16,
-            name_at: was.name_at,
-            name_len: was.name_len,
+            ..was
         };
         Ok(())
+    }
+
+    /// Makes a change by its own call.
+    pub fn make(&mut self, change: Change) -> Result<(), Refusal>
+        ensures step { Step (feeder_of self.old) (changed (direct change) (gave result)) (feeder_of self.new) }
+        ensures logged { Extends (feeder_of self.old) (changed (direct change) (gave result)) (feeder_of self.new) }
+        ensures rest { beyond self.new ≡ beyond self.old }
+    {
+        match change {
+            Change::Fit(k) => self.fit(k),
+            Change::Unfit(k) => self.unfit(k),
+            Change::Set {
+                section,
+                rate,
+                quarters,
+                customers,
+                load,
+            } => self.set(section, rate, quarters, customers, load),
+        }
     }
 }

@@ -14,10 +14,7 @@ impl Study<'_> {
     fn per_customer<M: Weighed>(&self, m: &M) -> Result<u64, Refusal>
         ensures { result ≡ per_customer (M.Measure.meaning m.now) (M.Weighed.number m.now) (feeder_of self.now) }
     {
-        if self.count == 0 {
-            return Err(Refusal::NoSection);
-        }
-        let v = self.view();
+        let v = self.view()?;
         let customers = v.weight(By::Customers);
         if customers == 0 {
             return Err(Refusal::NoCustomers);
@@ -46,9 +43,6 @@ impl Study<'_> {
         ensures answer { result ≡ eens_of (feeder_of self.now) }
         ensures alike { AlikeBy eens_of (feeder_of self.now) result }
     {
-        if self.count == 0 {
-            return Err(Refusal::NoSection);
-        }
-        Ok(self.view().weighted(&Minutes, By::Load) / 60000)
+        Ok(self.view()?.weighted(&Minutes, By::Load) / 60000)
     }
 }

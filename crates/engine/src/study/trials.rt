@@ -10,7 +10,7 @@ ghost use Rattle.engine.specs.Changes.{marked};
 ghost use Rattle.engine.specs.Laws.{AlikeBy, SwitchSpares, SwitchWorth};
 ghost use Rattle.engine.specs.Logs.{Extends, asked};
 ghost use Rattle.engine.specs.Questions.{full_trial_of, short_trial_of, if_room};
-ghost use Rattle.engine.specs.Studies.{feeder_of, lent_to};
+ghost use Rattle.engine.specs.Studies.{Triable, feeder_of, lent_to};
 
 use super::{Lent, Study};
 use feeder::Section;
@@ -52,14 +52,7 @@ fn totals_fitted<M: Measure>(
     at: usize,
     out: &mut [M::Value],
 ) -> Result<(), Refusal>
-    requires within { n ≤ length list.old }
-    requires few { n ≤ 1024 }
-    requires low { 1 ≤ switching }
-    requires high { switching ≤ 1440 }
-    requires fine { AllFine (take n list.old) }
-    requires above { 0 < at }
-    requires below { at < n }
-    requires bare { (slice_index_or list.old at blank).switch ≡ false }
+    requires { Triable list.old n switching at }
     ensures kept { list.new ≡ list.old }
     ensures totals { (result, out.new) ≡ if_room n (total (M.Measure.meaning m.now) (fitted (feeder (take n list.old) switching) at)) out.old }
 {
@@ -67,17 +60,15 @@ fn totals_fitted<M: Measure>(
     let guard = Fitted { list, at };
     let lent = guard.sections();
     let v = View {
-        sections: &lent[0..n],
+        sections: &lent[..n],
         switching,
     };
-    if !v.totals_into(m, out) {
-        return Err(Refusal::Short);
-    }
-    Ok(())
+    v.totals_into(m, out).or(Err(Refusal::Short))
 }
 
 impl Lent<'_> {
-    // The same on the lent list.
+    // The same on the lent list. Two functions: what a guard over `self.list` leaves there is not known once it ends, and a list lent
+    // out of a `Study`, which has ghost fields, is not covered by the borrow checker.
     fn totals_with<M: Measure>(
         &mut self,
         m: &M,
@@ -86,14 +77,7 @@ impl Lent<'_> {
         at: usize,
         out: &mut [M::Value],
     ) -> Result<(), Refusal>
-        requires within { n ≤ length self.old.list.now }
-        requires few { n ≤ 1024 }
-        requires low { 1 ≤ switching }
-        requires high { switching ≤ 1440 }
-        requires fine { AllFine (take n self.old.list.now) }
-        requires above { 0 < at }
-        requires below { at < n }
-        requires bare { (slice_index_or self.old.list.now at blank).switch ≡ false }
+        requires { Triable self.old.list.now n switching at }
         ensures kept { self.new.list.now ≡ self.old.list.now }
         ensures totals { (result, out.new) ≡ if_room n (total (M.Measure.meaning m.now) (fitted (feeder (take n self.old.list.now) switching) at)) out.old }
     {
@@ -109,7 +93,7 @@ impl Study<'_> {
         ensures worth { SwitchWorth (M.Measure.meaning m.now) (M.Weighed.number m.now) (weight_of Load) (feeder_of self.now) }
     {
         let at = self.bare(j)?;
-        self.view()
+        self.view()?
             .short_trial(m, By::Load, at)
             .ok_or(Refusal::NoSection)
     }

@@ -40,6 +40,7 @@ impl Session {
     {
         let mut at = from;
         let mut used = 0;
+        // A place that moves on by a line: how far, only the call tells, so no iterator counts it.
         while at < block.len() && out.len() - used >= ROOM {
             let (next, line) = self.lines.next(block, at);
             if let Some(input) = line {

@@ -1,4 +1,4 @@
-use Rattle.std.proofs.Common.{◌≡◌, ℕ, ◌<◌, ◌≤◌, List, length, take, drop, sym, refl, ap, ◌∙◌, subst, arith, length-append, take_at, drop_at, rules}
+use Rattle.std.proofs.Common.{◌≡◌, ℕ, ◌<◌, ◌≤◌, List, length, take, drop, sym, refl, ap, ◌∙◌, subst, arith, length-append, take_at, drop_at}
 use Rattle.std.proofs.lemmas.Result.{err_from_is_err_and}
 use Rattle.feeder.specs.declared.section.Section.{Section}
 use Rattle.archive.specs.Reading.{be2}
@@ -8,37 +8,25 @@ use Rattle.archive.proofs.ArchiveOne.{one_outcome}
 use Rattle.archive.proofs.Fine.{keeps_sound}
 use Rattle.archive.proofs.load.load_sections.Goals as goal
 
-pub returns-in_err-count : goal.returns-in_err-count
-returns-in_err-count c = record {
-  outcome = search rules;
-  one = one_outcome c.args.bytes.now (length c.args.list.now);
-}
-
-pub returns-in_err-end : goal.returns-in_err-end
-returns-in_err-end c =
+pub returns-in_err-end-clause-outcome : goal.returns-in_err-end-clause-outcome
+returns-in_err-end-clause-outcome c =
     let p = err_from_is_err_and c.from_residual-in_err-end.result c.from_residual-in_err-end.ensures.1 in
     let k = c.in_ok-count.ensures in
     let h = c.in_err-end.ensures in
     let l : length h.0 < be2 c.args.bytes.now 0 = omega (arith, h.2, k.0) in
-    record {
-      outcome = rw (p.1, p.2) (record { fails = faulty_record k.2 c.in_err-end.field-0.0 (h.0, h.1, l, h.3, h.4, h.5) refl; list = refl });
-      one = one_outcome c.args.bytes.now (length c.args.list.now);
-    }
+    rw (p.1, p.2) (record { fails = faulty_record k.2 c.in_err-end.field-0.0 (h.0, h.1, l, h.3, h.4, h.5) refl; list = refl })
 
-pub returns-then-end-bytes : goal.returns-then-end-bytes
-returns-then-end-bytes c =
+pub returns-then-end-bytes-clause-outcome : goal.returns-then-end-bytes-clause-outcome
+returns-then-end-bytes-clause-outcome c =
     let k = c.in_ok-count.ensures in
     let l : length c.read_sections.new.list ≡ c.in_ok-count.count = omega arith in
     record {
-      outcome = record {
-        fails = after k.2 c.read_sections.new.list c.in_ok-end.end (l ∙ k.0) c.in_ok-end.ensures c.if-end-bytes.true refl;
-        list = refl;
-      };
-      one = one_outcome c.args.bytes.now (length c.args.list.now);
+      fails = after k.2 c.read_sections.new.list c.in_ok-end.end (l ∙ k.0) c.in_ok-end.ensures c.if-end-bytes.true refl;
+      list = refl;
     }
 
-pub returns : goal.returns
-returns c =
+pub returns-clause-outcome : goal.returns-clause-outcome
+returns-clause-outcome c =
     let s = c.args.bytes.now in
     let xs = c.read_sections.new.list in
     let n = c.in_ok-count.count in
@@ -56,12 +44,21 @@ returns c =
       records = subst (λ (ys : List Section). Records s 0 4 ys (length s)) (sym t) (subst (λ (q : ℕ). Records s 0 4 xs q) f r);
     }) in
     record {
-      outcome = record {
-        keeps = k';
-        sound = keeps_sound k';
-        within = rw c.copy.ensures (simp length-append (omega arith));
-        count = m;
-        rest = ap (drop n) c.copy.ensures ∙ drop_at xs _ n l ∙ ap (λ (k : ℕ). drop k c.args.list.now) l;
-      };
-      one = one_outcome s (length c.args.list.now);
+      keeps = k';
+      sound = keeps_sound k';
+      within = rw c.copy.ensures (simp length-append (omega arith));
+      count = m;
+      rest = ap (drop n) c.copy.ensures ∙ drop_at xs _ n l ∙ ap (λ (k : ℕ). drop k c.args.list.now) l;
     }
+
+pub returns-in_err-count-clause-one : goal.returns-in_err-count-clause-one
+returns-in_err-count-clause-one c = one_outcome c.args.bytes.now (length c.args.list.now)
+
+pub returns-in_err-end-clause-one : goal.returns-in_err-end-clause-one
+returns-in_err-end-clause-one c = one_outcome c.args.bytes.now (length c.args.list.now)
+
+pub returns-then-end-bytes-clause-one : goal.returns-then-end-bytes-clause-one
+returns-then-end-bytes-clause-one c = one_outcome c.args.bytes.now (length c.args.list.now)
+
+pub returns-clause-one : goal.returns-clause-one
+returns-clause-one c = one_outcome c.args.bytes.now (length c.args.list.now)

@@ -1,7 +1,8 @@
-use Rattle.std.proofs.Common.{◌≡◌, ℕ, List, None, refl, ◌∙◌, subst}
+use Rattle.std.proofs.Common.{◌≡◌, ℕ, List, None, Result, refl, ◌∙◌, subst}
 use Rattle.feeder.specs.Feeder.{Feeder}
 use Rattle.lines.specs.Lines.{Reads}
-use Rattle.stream.specs.declared.input.Input.{Input}
+use Rattle.stream.specs.declared.text.Text.{Text}
+use Rattle.stream.specs.declared.text.TooLong.{TooLong}
 use Rattle.stream.specs.Streams.{Delivers}
 use Rattle.engine.proofs.Asked.{alike}
 use Rattle.engine.proofs.Logged.{extends}
@@ -12,8 +13,8 @@ use Rattle.console.proofs.Longest.{too_long}
 use Rattle.console.proofs.Steps.{line_one, answer_fits}
 use Rattle.console.proofs.input.answer_input.Goals as goal
 
-pub returns-in-Line : goal.returns-in-Line
-returns-in-Line c =
+pub returns-in-Ok : goal.returns-in-Ok
+returns-in-Ok c =
     let f : Feeder = feeder_of c.args.study.now in
     let g : Feeder = feeder_of c.answer_line.new.study in
     let before = c.args.out.now in
@@ -21,7 +22,7 @@ returns-in-Line c =
     let r = c.answer_line.result in
     let said = c.answer_line.ensures in
     let is : (line : List ℕ) → Delivers line c.args.input.now → c.as_slice.result.now ≡ line = λ line d.
-    let d' = subst (λ (i : Input). Delivers line i) c.in-Line.is d in c.as_slice.ensures ∙ d'.1 in
+    let d' = subst (λ (i : Result Text TooLong). Delivers line i) c.in-Ok.is d in c.as_slice.ensures ∙ d'.1 in
     record {
       lined = λ line d. subst (λ (x : List ℕ). Lined x before f r after g) (is line d) said.lined;
       alike = λ line d. subst (λ (x : List ℕ). Alike (LineAnswer x before) f (r, after)) (is line d) said.alike;
@@ -29,15 +30,15 @@ returns-in-Line c =
       fits = answer_fits _ before r after said.lined.answer;
     }
 
-pub returns-in-TooLong : goal.returns-in-TooLong
-returns-in-TooLong c =
+pub returns-in-Err : goal.returns-in-Err
+returns-in-Err c =
     let f : Feeder = feeder_of c.args.study.now in
     let before = c.args.out.now in
     let after = c.write_answer.new.out in
     let r = c.write_answer.result in
     let written = c.write_answer.ensures in
     let none : (line : List ℕ) → Delivers line c.args.input.now → Reads line None = λ line d.
-    let d' = subst (λ (i : Input). Delivers line i) c.in-TooLong.is d in too_long line d' in
+    let d' = subst (λ (i : Result Text TooLong). Delivers line i) c.in-Err.is d in too_long line d' in
     record {
       lined = λ line d. record { line = None; reads = none line d; answer = written; step = refl; logged = extends _ f f refl };
       alike = λ line d. alike (LineAnswer line before) (line_one line before) f (r, after) (None, none line d, written);

@@ -1,17 +1,18 @@
-use Rattle.std.proofs.Common.{◌+◌, ap, ◌∙◌, arith}
-use Rattle.std.specs.Str.Parse.{digits_value}
-use Rattle.std.proofs.lemmas.List.{take_all}
-use Rattle.lines.proofs.Values.{value_front, value_step}
+use Rattle.std.proofs.Common.{arith}
+use Rattle.lines.proofs.Values.{value_step}
 use Rattle.lines.proofs.read.value_of.Goals as goal
 
-pub returns-then-n-from : goal.returns-then-n-from
-returns-then-n-from c =
-    omega (arith, value_front 0 c.args.digits.now (c.loop-b.b-index + 1), value_step c.args.digits.now c.loop-b.b-index c.requires (omega arith))
+pub returns-in_err-checked_mul : goal.returns-in_err-checked_mul
+returns-in_err-checked_mul c =
+    let v = value_step c.args.digits.now c.loop-b.b-index c.requires (omega arith) in
+    rw c.from_residual.ensures (omega (arith, c.in_err-checked_mul.ensures))
+
+pub returns-in_err-n : goal.returns-in_err-n
+returns-in_err-n c =
+    let v = value_step c.args.digits.now c.loop-b.b-index c.requires (omega arith) in
+    rw c.from_residual-in_err-n.ensures (omega (arith, c.in_err-n.ensures, c.in_ok-checked_mul.ensures))
 
 pub loop-b-preserved : goal.loop-b-preserved
 loop-b-preserved c =
-    let e = value_step c.args.digits.now c.loop-b.b-index c.requires (omega arith) in
-    (omega arith, omega arith)
-
-pub returns : goal.returns
-returns c = c.loop-b.invariant.1 ∙ ap (digits_value 10) (take_all c.loop-b.b-index c.args.digits.now (omega arith))
+    let v = value_step c.args.digits.now c.loop-b.b-index c.requires (omega arith) in
+    omega (arith, c.in_ok-n.ensures, c.in_ok-checked_mul.ensures)

@@ -1,23 +1,18 @@
-use Rattle.std.proofs.Common.{ℕ, get_or, take, set, refl, ap, ◌∙◌, length-set, drop-set-lt}
-use Rattle.std.proofs.lemmas.Result.{err_from_is_err_and}
+use Rattle.std.proofs.Common.{rules, ℕ, get_or, take, set, refl, ap, ◌∙◌, length-set, drop-set-lt}
 use Rattle.feeder.specs.Feeder.{Feeder, switched, blank}
 use Rattle.sweeps.specs.Lists.{feeder}
 use Rattle.lines.specs.declared.change.Change.TheVariants.{Fit}
 use Rattle.engine.specs.declared.journal.Call.TheVariants.{Direct}
 use Rattle.engine.specs.Studies.{feeder_of}
 use Rattle.engine.proofs.Fines.{fine_take_marked, altered}
-use Rattle.engine.proofs.Judges.{step_refused, step_done}
+use Rattle.engine.proofs.Judges.{step_done}
 use Rattle.engine.proofs.Logged.{extends}
-use Rattle.engine.proofs.Replies.{err_some, index_of}
+use Rattle.engine.proofs.Replies.{index_of}
 use Rattle.engine.proofs.Switches.{fit_switched, fit_switches}
 use Rattle.engine.proofs.study.Study.fit.Goals as goal
 
-pub returns-in_err-at : goal.returns-in_err-at
-returns-in_err-at c =
-    let f : Feeder = feeder_of c.args.self.now in
-    let p = err_from_is_err_and c.from_residual.result c.from_residual.ensures.1 in
-    let step = step_refused f (Fit c.args.k) _ (err_some _ _ _ c.in_err-at.ensures) in
-    rw (p.1, p.2) (record { step = step; logged = extends _ f f step; switched = refl; apart = tt; rest = refl })
+pub returns-in_err-at-clause-logged : goal.returns-in_err-at-clause-logged
+returns-in_err-at-clause-logged c = extends _ _ _ (search rules)
 
 pub invariant_of-self : goal.invariant_of-self
 invariant_of-self c =

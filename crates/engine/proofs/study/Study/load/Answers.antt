@@ -1,4 +1,4 @@
-use Rattle.std.proofs.Common.{List, take, refl, ap, arith}
+use Rattle.std.proofs.Common.{List, take, ap, arith}
 use Rattle.std.proofs.lemmas.Result.{err_from_is_err_and}
 use Rattle.feeder.specs.declared.section.Section.{Section}
 use Rattle.sweeps.specs.Lists.{feeder}
@@ -21,12 +21,3 @@ invariant_of-self-2 c =
     let h = c.in_ok-count.ensures.outcome in
     let k = h.keeps in
     record { within = h.within; few = omega (arith, h.count, k.count_range.1); low = λ _. k.time_range.0; high = k.time_range.1; fine = keeps_fine k }
-
-pub returns : goal.returns
-returns c =
-    let h = c.in_ok-count.ensures.outcome in
-    record {
-      outcome = record { keeps = h.keeps; rest = h.rest };
-      one = c.in_ok-count.ensures.one;
-      starts = (_, _, h.keeps, refl);
-    }

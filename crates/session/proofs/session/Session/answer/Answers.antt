@@ -1,6 +1,6 @@
 use Rattle.std.proofs.Common.{Option, ◌∙◌, subst, arith}
 use Rattle.std.specs.List.{between}
-use Rattle.stream.specs.declared.input.Input.{Input}
+use Rattle.session.specs.Talks.{Input}
 use Rattle.stream.specs.Streams.{Feeds}
 use Rattle.engine.specs.Studies.{feeder_of}
 use Rattle.session.proofs.Talks.{turn_line, turn_none, past_more}

@@ -1,5 +1,11 @@
-use Rattle.sweeps.proofs.Views.{view_sound}
+use Rattle.feeder.specs.Feeder.{size}
+use Rattle.feeder.specs.Totals.{total}
+use Rattle.sweeps.specs.Views.{shown}
+use Rattle.sweeps.proofs.Turns.{written_holds}
 use Rattle.sweeps.proofs.view.View.weighted.Goals as goal
 
-pub weighted-requires : goal.weighted-requires
-weighted-requires g c = record { sound = view_sound c.args.self.now }
+pub add_up-requires-clause-told : goal.add_up-requires-clause-told
+add_up-requires-clause-told g c =
+    let μ = g.M.Measure.meaning c.args.m.now in
+    let f = shown c.args.self.now in
+    written_holds (total μ f) (size f) _ _ μ.nothing c.write_totals.ensures
