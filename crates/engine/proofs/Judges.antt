@@ -5,7 +5,7 @@ use Rattle.std.proofs.lemmas.Bool.{and_from}
 use Rattle.feeder.specs.declared.section.Section.{Section}
 use Rattle.feeder.specs.Feeder.{Feeder, size, at, blank}
 use Rattle.std.specs.Result.{result_or}
-use Rattle.sweeps.specs.declared.asked.TooShort.{TooShort}
+use Rattle.sweeps.specs.declared.up.TooShort.{TooShort}
 use Rattle.sweeps.specs.Views.{too_short}
 use Rattle.sweeps.specs.Lists.{feeder, written}
 use Rattle.lines.specs.declared.refusal.Refusal.{Refusal}

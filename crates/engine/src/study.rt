@@ -19,6 +19,7 @@ struct Lent<'a> {
 /// One feeder under study, kept in a section list that the caller lends.
 ///
 /// Before a load is accepted there are no sections, and every other call answers `NoSection`.
+// What a call leaves alone is said of each call, as `rest`: a model of the study would have to say the same there.
 #[derive(Drop)]
 pub struct Study<'a> {
     lent: Lent<'a>,

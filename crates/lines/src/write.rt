@@ -38,7 +38,12 @@ impl Pen<'_> {
         requires { self.old.at + length (decimal n) ≤ length self.old.out.now }
         ensures { Wrote self.old (decimal n) self.new }
     {
-        self.text(itoa::Buffer::new().format(n).as_bytes());
+        // A buffer for one digit, as a refused line has it, would cost more than the digit.
+        if n < 10 {
+            self.byte(b'0' + n as u8);
+        } else {
+            self.text(itoa::Buffer::new().format(n).as_bytes());
+        }
     }
 
     // Each number after one space.

@@ -12,6 +12,7 @@ use sweeps::By;
 
 fn main(rt: HostRuntime) -> anyhow::Result<()> {
     let archive = fs::read(&rt, "feeder.arc")?;
+    // An array, since a study fills a list that it is lent.
     let mut list = [Section::BLANK; MOST_SECTIONS];
     let mut study = Study::open(&mut list);
     if study.load(&archive).is_err() {

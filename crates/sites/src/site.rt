@@ -77,6 +77,7 @@ impl<'a> Site<'a> {
     }
 
     fn answer(&mut self, rt: &HostRuntime, text: &[u8]) -> anyhow::Result<()> {
+        // An array with a count, since a call that answers allocates nothing.
         let mut out = [0u8; ROOM];
         let answered = answer_line(&mut self.study, text, &mut out);
         if let Some(front) = answered.ok().and_then(|n| out.get(..n)) {

@@ -1,16 +1,20 @@
--- One byte more of a stream.
+-- More of a stream.
 use Rattle.std.proofs.Common.{◌≡◌, ◌≢◌, ℕ, List, [], ◌∷◌, ◌++◌, Result, sym, refl, ap, ◌∙◌, subst, arith}
 use Rattle.std.specs.List.{AllByRecursion}
-use Rattle.std.proofs.lemmas.List.{append_assoc, append-nil}
+use Rattle.std.proofs.lemmas.List.{append_assoc}
 use Rattle.std.proofs.ByRecursion.{All-push}
 use Rattle.stream.specs.declared.text.Text.{Text}
 use Rattle.stream.specs.declared.text.TooLong.{TooLong}
 use Rattle.stream.specs.declared.lines.Lines.{Lines}
 use Rattle.stream.specs.Streams.{Plain, stream, Delivers, DeliversAll, Holds, Fed, Ended, last_line, OneParting}
 
-stream_push : (ls : List (List ℕ)) (p : List ℕ) (b : ℕ) → stream ls (p ++ (b ∷ [])) ≡ stream ls p ++ (b ∷ [])
-stream_push [] p b = refl
-stream_push (l ∷ ls) p b = ap (λ (x : List ℕ). l ++ (10 ∷ x)) (stream_push ls p b) ∙ sym (append_assoc l (10 ∷ stream ls p) (b ∷ []))
+stream_more : (ls : List (List ℕ)) (p xs : List ℕ) → stream ls (p ++ xs) ≡ stream ls p ++ xs
+stream_more [] p xs = refl
+stream_more (l ∷ ls) p xs = ap (λ (x : List ℕ). l ++ (10 ∷ x)) (stream_more ls p xs) ∙ sym (append_assoc l (10 ∷ stream ls p) xs)
+
+plain_more : (p xs : List ℕ) → Plain p → Plain xs → Plain (p ++ xs)
+plain_more [] xs h k = k
+plain_more (b ∷ p) xs h k = (h.0, plain_more p xs h.1 k)
 
 stream_line : (ls : List (List ℕ)) (p : List ℕ) → stream (ls ++ (p ∷ [])) [] ≡ stream ls p ++ (10 ∷ [])
 stream_line [] p = refl
@@ -33,14 +37,14 @@ fed_line bs ds s t d f given none = record {
   kept = none;
 }
 
-pub fed_byte : (bs : List ℕ) (ds : List (Result Text TooLong)) (s t : Lines) (b : ℕ) → Fed bs ds s → (b ≡ 10 → ⊥) → ((part : List ℕ) → Holds s part → Holds t (part ++ (b ∷ []))) → Fed (bs ++ (b ∷ [])) (ds ++ []) t
-fed_byte bs ds s t b f ne taken = record {
+pub fed_more : (bs : List ℕ) (ds : List (Result Text TooLong)) (s t : Lines) (xs : List ℕ) → Fed bs ds s → Plain xs → ((part : List ℕ) → Holds s part → Holds t (part ++ xs)) → Fed (bs ++ xs) ds t
+fed_more bs ds s t xs f plain taken = record {
   lines = f.lines;
-  part = f.part ++ (b ∷ []);
-  whole = ap (λ (x : List ℕ). x ++ (b ∷ [])) f.whole ∙ sym (stream_push f.lines f.part b);
+  part = f.part ++ xs;
+  whole = ap (λ (x : List ℕ). x ++ xs) f.whole ∙ sym (stream_more f.lines f.part xs);
   plain = f.plain;
-  plain_part = All-push (λ (x : ℕ). x ≡ 10 → ⊥) f.part b f.plain_part ne;
-  gave = subst (DeliversAll f.lines) (sym (append-nil ds)) f.gave;
+  plain_part = plain_more f.part xs f.plain_part plain;
+  gave = f.gave;
   kept = taken f.part f.kept;
 }
 

@@ -1,5 +1,5 @@
 -- A stream of bytes as lines that end in line feeds, and a last one that does not.
-use Rattle.std.specs.Prelude.{◌≡◌, ℕ, ◌<◌, ◌≤◌, List, [], ◌∷◌, ◌++◌, length, take, None, Option, Ok, Err, Result, ◌≢◌}
+use Rattle.std.specs.Prelude.{◌≡◌, ℕ, ◌+◌, ◌<◌, ◌≤◌, List, [], ◌∷◌, ◌++◌, length, take, None, Option, Ok, Err, Result, ◌≢◌}
 use Rattle.std.specs.List.{AllByRecursion}
 use Rattle.std.specs.Option.{option_to_list}
 use Rattle.stream.specs.declared.text.Text.{Text}
@@ -10,10 +10,10 @@ use Rattle.stream.specs.declared.lines.Lines.{Lines}
 abbrev pub held : Text → List ℕ
 held t = take t.count t.bytes
 
--- what adding the byte b leaves of a text that was, and whether it had room
-abbrev pub Added : List ℕ → ℕ → Result (Unit {0}) TooLong → List ℕ → Type 0
-Added was b (Ok u) after = (length was < 64) × (after ≡ was ++ (b ∷ []))
-Added was b (Err e) after = (length was ≡ 64) × (after ≡ was)
+-- what adding the bytes bs leaves of a text that was, and whether it had room
+abbrev pub Added : List ℕ → List ℕ → Result (Unit {0}) TooLong → List ℕ → Type 0
+Added was bs (Ok u) after = (length was + length bs ≤ 64) × (after ≡ was ++ bs)
+Added was bs (Err e) after = (64 < length was + length bs) × (after ≡ was)
 
 -- no line feed
 abbrev pub Plain : List ℕ → Type 0

@@ -1,15 +1,21 @@
-ghost use Rattle.std.specs.Prelude.{ℕ, List, [], ◌∷◌, ◌++◌, length, Result};
+ghost use Rattle.std.specs.Prelude.{◌≡◌, ℕ, ◌<◌, List, [], ◌∷◌, ◌++◌, length, take, slice_index, MatchOption, Result};
 ghost use Rattle.std.specs.Option.{option_to_list};
 ghost use Rattle.std.specs.List.{between};
 ghost use Rattle.stream.specs.declared.text.Text.{Text};
 ghost use Rattle.stream.specs.declared.text.TooLong.{TooLong};
-ghost use Rattle.stream.specs.Streams.{Delivers, Holds, Fed, Feeds, Ended, OneParting, Goes};
+ghost use Rattle.stream.specs.Streams.{Plain, Delivers, Holds, Fed, Feeds, Ended, OneParting, Goes};
 
 use crate::text::{Text, TooLong};
-use std::mem;
 
 // What ends a line.
 const FEED: u8 = b'\n';
+
+// Where the first line feed stands.
+fn first_feed(bytes: &[u8]) -> Option<usize>
+    ensures { MatchOption result (Plain bytes.now) (λ i. (i < length bytes.now) × Plain (take i bytes.now) × (slice_index bytes.now i ≡ 10)) }
+{
+    bytes.iter().position(|b| *b == FEED)
+}
 
 /// The line that is being read: what has come of it, while that fits a text.
 #[derive(Clone, Copy)]
@@ -34,7 +40,7 @@ impl Lines {
         if byte == FEED {
             Some(self.end_line())
         } else {
-            self.take(byte);
+            self.take(&[byte]);
             None
         }
     }
@@ -48,12 +54,16 @@ impl Lines {
         let Some(rest) = bytes.get(from..) else {
             return (from, None);
         };
-        for (i, byte) in rest.iter().enumerate() {
-            if let Some(line) = self.push(*byte) {
-                return (from + i + 1, Some(line));
+        match first_feed(rest) {
+            Some(i) => {
+                self.take(&rest[..i]);
+                (from + i + 1, Some(self.end_line()))
+            }
+            None => {
+                self.take(rest);
+                (bytes.len(), None)
             }
         }
-        (bytes.len(), None)
     }
 
     /// At the end of the input: the last line, where it is not empty.
@@ -72,15 +82,20 @@ impl Lines {
         ensures given { (part : List ℕ) → Holds self.old part → Delivers part result }
         ensures empty { Holds self.new [] }
     {
-        mem::replace(&mut self.line, Ok(Text::new()))
+        let done = self.line;
+        match &mut self.line {
+            Ok(text) => text.clear(),
+            Err(TooLong) => self.line = Ok(Text::new()),
+        }
+        done
     }
 
-    // One more byte of the line being read.
-    fn take(&mut self, byte: u8)
-        ensures { (part : List ℕ) → Holds self.old part → Holds self.new (part ++ (byte ∷ [])) }
+    // More bytes of the line being read.
+    fn take(&mut self, more: &[u8])
+        ensures { (part : List ℕ) → Holds self.old part → Holds self.new (part ++ more.now) }
     {
         if let Ok(text) = &mut self.line
-            && let Err(full) = text.add(byte)
+            && let Err(full) = text.extend(more)
         {
             self.line = Err(full);
         }

@@ -42,15 +42,23 @@ impl Text {
         self.count == 0
     }
 
-    // Adds a byte at the end, where there is room for it.
-    pub(crate) fn add(&mut self, byte: u8) -> Result<(), TooLong>
-        ensures { Added (held self.old) byte result (held self.new) }
+    // The bytes stay where they are, out of use: nothing need be written over them.
+    pub(crate) fn clear(&mut self)
+        ensures { held self.new ≡ [] }
     {
-        if self.count == ROOM {
+        self.count = 0;
+    }
+
+    // Adds bytes at the end, where there is room for all of them.
+    pub(crate) fn extend(&mut self, part: &[u8]) -> Result<(), TooLong>
+        ensures { Added (held self.old) part.now result (held self.new) }
+    {
+        if part.len() > ROOM - self.count {
             return Err(TooLong);
         }
-        self.bytes[self.count] = byte;
-        self.count += 1;
+        let end = self.count + part.len();
+        self.bytes[self.count..end].copy_from_slice(part);
+        self.count = end;
         Ok(())
     }
 }

@@ -15,8 +15,12 @@ const ARCHIVE: &str = "feeder.arc";
 // An accepted archive has at most 4 + 1,024 * 52 bytes, and the first byte past them is a fault: more need not be read.
 const LONGEST: u64 = 53_253;
 
+// What is read, and what is written, at a time.
+const BLOCK: usize = 16_384;
+
 fn main(rt: HostRuntime) -> io::Result<()> {
     let archive = read_archive(&rt)?;
+    // Lists and blocks are arrays with a count, since what fills them allocates nothing.
     let mut list = [Section::BLANK; MOST_SECTIONS];
     let mut study = Study::open(&mut list);
     match study.load(&archive) {
@@ -48,7 +52,7 @@ fn tell(rt: &HostRuntime, fault: &LoadFault) -> io::Result<()> {
 fn answer_all(rt: &HostRuntime, study: &mut Study) -> io::Result<()> {
     let mut session = Session::new();
     for _ in 0..u64::MAX {
-        let mut block = [0u8; 16384];
+        let mut block = [0u8; BLOCK];
         let n = rt.stdin().read(&mut block)?;
         if n == 0 {
             break;
@@ -78,7 +82,7 @@ fn answer_block(
     // A place that moves on by as many lines as there was room to answer.
     let mut from = 0;
     while from < block.len() {
-        let mut out = [0u8; 16384];
+        let mut out = [0u8; BLOCK];
         let (next, n) = session.answer(study, block, from, &mut out);
         rt.stdout().write_all(out.split_at(n).0)?;
         from = next;

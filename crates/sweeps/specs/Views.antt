@@ -1,7 +1,7 @@
 -- The feeder that a view shows, and its answers where a section or room is missing. Assumes nothing.
 use Rattle.std.specs.Prelude.{ℕ, cond, Some, None, Option, nat_lt}
 use Rattle.feeder.specs.Feeder.{Feeder, size}
-use Rattle.sweeps.specs.declared.asked.TooShort.{TooShort}
+use Rattle.sweeps.specs.declared.up.TooShort.{TooShort}
 use Rattle.sweeps.specs.declared.view.View.{View}
 
 abbrev pub shown : View → Feeder

@@ -1,7 +1,6 @@
 // The sweeps over a feeder's sections, for every measure: all totals cost one pass down and one pass up.
 #![tactic(auto)]
 
-mod asked;
 mod by;
 mod down;
 mod tree;
@@ -10,6 +9,6 @@ mod up;
 mod view;
 mod weights;
 
-pub use asked::TooShort;
 pub use by::By;
+pub use up::TooShort;
 pub use view::View;

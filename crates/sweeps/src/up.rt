@@ -1,23 +1,32 @@
 // The upward sweep: the total of each node.
-ghost use Rattle.std.specs.Prelude.{◌≡◌, ℕ, ◌<◌, ◌≤◌, length};
+ghost use Rattle.std.specs.Prelude.{◌≡◌, ℕ, ◌<◌, Ok, Err, length, if◌then◌else◌, nat_le};
 ghost use Rattle.feeder.specs.Feeder.{size};
 ghost use Rattle.feeder.specs.Totals.{far_total, total};
 ghost use Rattle.feeder.specs.Flows.{held};
 ghost use Rattle.sweeps.specs.Lists.{Holds, written};
-ghost use Rattle.sweeps.specs.Views.{shown};
+ghost use Rattle.sweeps.specs.Views.{shown, too_short};
 
 use crate::view::View;
 use measures::Measure;
 
+/// The list to write to has fewer entries than the feeder has sections.
+#[derive(Clone, Copy, PartialEq, Eq, Debug)]
+pub struct TooShort;
+
 impl View<'_> {
-    // Writes the total of each node to the front of `out`.
-    pub(crate) fn write_totals<M: Measure>(&self, m: &M, out: &mut [M::Value])
-        requires room { size (shown self.now) ≤ length out.old }
-        ensures { out.new ≡ written (total (M.Measure.meaning m.now) (shown self.now)) (size (shown self.now)) out.old }
+    /// Writes the total of each node to the front of `out`; nothing is written where it has not room for all.
+    pub fn totals_into<M: Measure>(&self, m: &M, out: &mut [M::Value]) -> Result<(), TooShort>
+        ensures fits { result ≡ (if nat_le (size (shown self.now)) (length out.old) then Ok tt else Err too_short) }
+        ensures totals { out.new ≡ (if nat_le (size (shown self.now)) (length out.old) then written (total (M.Measure.meaning m.now) (shown self.now)) (size (shown self.now)) out.old else out.old) }
     {
-        let part = &mut out[..self.sections.len()];
+        let n = self.sections.len();
+        if out.len() < n {
+            return Err(TooShort);
+        }
+        let part = &mut out[..n];
         self.held_into(m, part);
         self.spread(m, self.far_total(m), part);
+        Ok(())
     }
 
     // What every node bears: the far effects of all faults, joined.

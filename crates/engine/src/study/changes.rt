@@ -39,6 +39,7 @@ impl Study<'_> {
     }
 
     /// Sets rate, repair time (15 minutes for each quarter), customers and load of section `k`, and nothing else.
+    // Five numbers, as a line has them: a struct of four would be taken apart wherever it is made.
     pub fn set(
         &mut self,
         k: u32,

@@ -10,7 +10,8 @@ use archive::{LoadFault, load_sections};
 use feeder::Section;
 
 impl Lent<'_> {
-    // Fills the front of the lent list from an archive.
+    // Fills the front of the lent list from an archive. A function over `load_sections`: a list lent out of a `Study`, which has ghost
+    // fields, is not covered by the borrow checker.
     fn fill(&mut self, archive: &[u8]) -> Result<(usize, u16), LoadFault>
         ensures outcome { MatchResult result (λ t. Filled archive.now self.old.list.now self.new.list.now t.0 t.1) (λ f. Kept archive.now self.old.list.now self.new.list.now f) }
         ensures one { OneOutcome archive.now (length self.old.list.now) }

@@ -1,8 +1,9 @@
-use Rattle.stream.proofs.Feeds.{fed_line, fed_byte}
+use Rattle.std.proofs.lemmas.List.{append-nil}
+use Rattle.stream.proofs.Feeds.{fed_line, fed_more}
 use Rattle.stream.proofs.lines.Lines.push.Goals as goal
 
 pub returns-then-byte-eq-FEED : goal.returns-then-byte-eq-FEED
 returns-then-byte-eq-FEED c = λ bs ds f. rw c.if-byte-eq-FEED.true (fed_line bs ds _ _ _ f c.end_line.ensures.given c.end_line.ensures.empty)
 
 pub returns-else-byte-eq-FEED : goal.returns-else-byte-eq-FEED
-returns-else-byte-eq-FEED c = λ bs ds f. fed_byte bs ds _ _ _ f c.if-byte-eq-FEED.false c.take.ensures
+returns-else-byte-eq-FEED c = λ bs ds f. rw (append-nil ds) (fed_more bs ds _ _ _ f (c.if-byte-eq-FEED.false, tt) c.take.ensures)

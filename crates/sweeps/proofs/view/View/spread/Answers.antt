@@ -4,13 +4,10 @@ use Rattle.feeder.specs.Feeder.{Feeder, Sound, cut, size}
 use Rattle.feeder.specs.Measure.{Meaning}
 use Rattle.feeder.specs.Totals.{far_total}
 use Rattle.sweeps.specs.Views.{shown}
-use Rattle.sweeps.proofs.Turns.{Risen, risen_none, rise_root, rise_bare, rise_switched}
+use Rattle.sweeps.proofs.Turns.{Risen, rise_root, rise_bare, rise_switched}
 use Rattle.sweeps.proofs.Views.{view_sound, parent_at, root_at}
 use Rattle.sweeps.proofs.view.View.spread.Goals as goal
 use Rattle.sweeps.proofs.view.View.spread.Goals.{in-None, in-Some+then-section, in-Some+else-section}
-
-pub loop-j-init : goal.loop-j-init
-loop-j-init g c = risen_none (g.M.Measure.meaning c.args.m.now) (g.met.M.Measure.lawful c.args.m.now) (shown c.args.self.now) (view_sound c.args.self.now) c.args.out.now c.requires.start
 
 pub loop-j-preserved : goal.loop-j-preserved
 unfolding cut

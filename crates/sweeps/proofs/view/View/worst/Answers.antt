@@ -1,4 +1,5 @@
 use Rattle.std.proofs.Common.{◌≡◌, ℕ, List, length, take, get_or, ap, ◌∙◌, rules}
+use Rattle.std.proofs.lemmas.Bool.{le-leb, cond-true}
 use Rattle.std.proofs.lemmas.List.{get_or-take, places}
 use Rattle.feeder.specs.Feeder.{size}
 use Rattle.feeder.specs.Totals.{total}
@@ -14,7 +15,7 @@ returns g c =
     let f = shown c.args.self.now in
     let n : ℕ = size f in
     let few = c.args.self.now.few in
-    let out : List g.row.M-Value.Denot = c.write_totals.new.out in
+    let out : List g.row.M-Value.Denot = c.totals_into.new.out in
     let long : length (take n out) ≡ n = search (rules, places) in
-    let told = written_holds (total μ f) n _ _ μ.nothing c.write_totals.ensures in
+    let told = written_holds (total μ f) n _ _ μ.nothing (c.totals_into.ensures.totals ∙ cond-true _ _ _ (le-leb _ _ few)) in
     largest_same (λ j. number (get_or (take n out) j μ.nothing)) (λ j. number (total μ f j)) (length (take n out)) n c.largest.result long (λ j l. ap number (get_or-take n out j μ.nothing l ∙ told j l)) c.largest.ensures
