@@ -27,6 +27,7 @@ const MOST_LOAD: u16 = 4000;
 
 /// The number fields of a record. In section 0, which has no parent, `parent`
 /// means nothing.
+// A number even there, as the table of fields has it: `parent_of` makes the `Option`.
 #[derive(Clone, Copy, Debug)]
 pub(crate) struct Fields {
     pub(crate) parent: u16,
@@ -46,13 +47,13 @@ pub(crate) struct Mapped<'a> {
 }
 
 impl Mapped<'_> {
-    fn has(&self, bit: u8) -> bool
+    pub(crate) fn has(&self, bit: u8) -> bool
         ensures { result ≡ stands self.now.map bit }
     {
         self.map & bit != 0
     }
 
-    // One function for each kind of field: they differ in width, range, absence and fault, and each says its own.
+    // One function for each kind of field: one for all would take a width, a range, an absence and a fault, which is what each says.
     fn parent(&self, at: usize) -> Result<(u16, usize), RecordFault>
         ensures { MatchResult result (λ t. ReadAt self.now.bytes.now self.now.number self.now.map parent at t.0 t.1) (λ f. RefusedAt self.now.bytes.now self.now.number self.now.map parent at f) }
     {

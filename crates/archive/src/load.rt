@@ -56,7 +56,7 @@ fn section_of(read: &Record) -> Section
 fn read_section(bytes: &[u8], at: usize, number: u16) -> Result<(Section, usize), SectionFault>
     ensures { MatchResult result (λ t. (d : Record) × Laid bytes.now at number d t.1 × SectionOf d t.0) (λ e. (e.section ≡ number) × Faulty bytes.now at number e.fault) }
 {
-    // A `match`: with `map_err`, which fault its closure was given did not come out of the proof.
+    // A `match`: `?` alone has no place for the section's number, and with `map_err` the proof did not close.
     match read_record(bytes, at, number) {
         Ok((record, end)) => Ok((section_of(&record), end)),
         Err(fault) => Err(SectionFault {
@@ -73,6 +73,7 @@ fn read_sections(bytes: &[u8], list: &mut [Section]) -> Result<usize, SectionFau
 {
     let mut at = 4;
     for (i, slot) in list.iter_mut().enumerate() {
+        // `as`: it is proved to fit, so there is no error to pass on.
         (*slot, at) = read_section(bytes, at, i as u16)?;
     }
     Ok(at)

@@ -24,7 +24,7 @@ impl Mapped<'_> {
     pub(crate) fn name(&self, at: usize) -> Result<(Name, usize), RecordFault>
         ensures { MatchResult result (λ t. NameRead self.now.bytes.now (named self.now.map) at t.0.at t.0.len t.1) (λ f. NameRefused self.now.bytes.now (named self.now.map) at f) }
     {
-        if self.map & NAME == 0 {
+        if !self.has(NAME) {
             return Ok((Name::EMPTY, at));
         }
         let [len] = bytes_at::<1>(self.bytes, at)?;

@@ -1,8 +1,8 @@
 // What a journal of changes records.
 use lines::Change;
 
-// No `Option<usize>`: a direct call is a call and not the lack of one.
 /// The public call that a change came through; the console with its output list's length.
+// No `Option<usize>`: a direct call is a call and not the lack of one.
 #[derive(Clone, Copy, PartialEq, Eq, Debug)]
 pub enum Call {
     Direct,

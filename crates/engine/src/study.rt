@@ -19,6 +19,7 @@ struct Lent<'a> {
 /// One feeder under study, kept in a section list that the caller lends.
 ///
 /// Before a load is accepted there are no sections, and every other call answers `NoSection`.
+// No `Option` of what is loaded: a study without sections has a count of 0, and each call refuses by that alone.
 // What a call leaves alone is said of each call, as `rest`: a model of the study would have to say the same there.
 #[derive(Drop)]
 pub struct Study<'a> {

@@ -12,6 +12,7 @@ pub struct Name {
 
 impl Name {
     /// The empty name.
+    // No `Option`: by the definition an empty name has a place, which is 0, and a length.
     pub const EMPTY: Name = Name { at: 0, len: 0 };
 }
 

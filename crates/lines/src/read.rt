@@ -77,8 +77,8 @@ fn line_of(letter: u8, number: u32) -> Option<Line>
     }
 }
 
-// A function and no `TryFrom`: there is nothing to tell of a text that is no line.
 /// The line that the bytes are the text of; the line feed that ends it is not among them.
+// A function and no `TryFrom`: the clause `one` speaks of all texts, and a trait's contract has no place for it.
 pub fn read_line(text: &[u8]) -> Option<Line>
     ensures reads { Reads text.now result }
     ensures one { OneText text.now result }

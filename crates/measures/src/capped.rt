@@ -1,4 +1,4 @@
-// The values of Minutes and Count.
+// The values of measures that add up.
 ghost use Rattle.std.specs.Prelude.{◌^◌, ◌<◌};
 
 /// A whole number that a sum caps at 2^64 - 1.

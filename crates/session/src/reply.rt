@@ -19,8 +19,8 @@ fn reply_in_front(study: &mut Study, input: &Result<Text, TooLong>, out: &mut [u
     answer_input(study, input, part).unwrap_or(0)
 }
 
-// Study, line and output list, as `answer_input` takes them: one line's call and the two steps under it need no struct.
-// Answers one line behind the first `used` bytes of `out`, which stay.
+// Answers one line behind the first `used` bytes of `out`, which stay. Study, line and list come as `answer_input` takes them: for
+// one line's call and the two steps under it, a struct would be made only to be taken apart.
 pub(crate) fn reply(
     study: &mut Study,
     input: &Result<Text, TooLong>,

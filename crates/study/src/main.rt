@@ -20,7 +20,7 @@ const BLOCK: usize = 16_384;
 
 fn main(rt: HostRuntime) -> io::Result<()> {
     let archive = read_archive(&rt)?;
-    // Lists and blocks are arrays with a count, since what fills them allocates nothing.
+    // An array, since a study fills a list that it is lent.
     let mut list = [Section::BLANK; MOST_SECTIONS];
     let mut study = Study::open(&mut list);
     match study.load(&archive) {
@@ -43,6 +43,7 @@ fn read_archive(rt: &HostRuntime) -> io::Result<Vec<u8>> {
 }
 
 fn tell(rt: &HostRuntime, fault: &LoadFault) -> io::Result<()> {
+    // An array with a count: memory does not grow with what is read.
     let mut out = [0u8; ROOM];
     let told = fault_line(fault, &mut out);
     write_front(rt, &out, told)
@@ -52,6 +53,7 @@ fn tell(rt: &HostRuntime, fault: &LoadFault) -> io::Result<()> {
 fn answer_all(rt: &HostRuntime, study: &mut Study) -> io::Result<()> {
     let mut session = Session::new();
     for _ in 0..u64::MAX {
+        // Likewise.
         let mut block = [0u8; BLOCK];
         let n = rt.stdin().read(&mut block)?;
         if n == 0 {
@@ -59,6 +61,7 @@ fn answer_all(rt: &HostRuntime, study: &mut Study) -> io::Result<()> {
         }
         answer_block(rt, study, &mut session, block.split_at(n).0)?;
     }
+    // Likewise.
     let mut out = [0u8; ROOM];
     let answered = session.finish(study, &mut out);
     write_front(rt, &out, answered)
@@ -79,9 +82,10 @@ fn answer_block(
     session: &mut Session,
     block: &[u8],
 ) -> io::Result<()> {
-    // A place that moves on by as many lines as there was room to answer.
+    // No iterator: how far a call came, only the call tells.
     let mut from = 0;
     while from < block.len() {
+        // An array with a count: memory does not grow with what is read.
         let mut out = [0u8; BLOCK];
         let (next, n) = session.answer(study, block, from, &mut out);
         rt.stdout().write_all(out.split_at(n).0)?;

@@ -20,12 +20,14 @@ impl View<'_> {
         self.gather(m, part);
     }
 
-    // Writes the extra part of each section's fault.
+    // Writes the extra part of each section's fault. That the list has an entry for each section is asked here and of the two sweeps
+    // that follow: `held_into` and `totals_into` cut it once.
     fn fill<M: Measure>(&self, m: &M, out: &mut [M::Value])
         requires long { length out.old ≡ size (shown self.now) }
         ensures { Holds (M.Measure.meaning m.now).nothing (extra_part (M.Measure.meaning m.now) (shown self.now)) (size (shown self.now)) out.new }
     {
         for (k, section) in self.sections.iter().enumerate() {
+            // `as`: it is proved to fit, so there is no error to pass on.
             out[k] = m.extra(k as u16, &section.figures, self.switching);
         }
     }

@@ -22,7 +22,8 @@ impl View<'_> {
         self.weight_below(by, head) - self.weight_below(by, j)
     }
 
-    // The head of section k.
+    // The head of section k. That there is such a section is asked here and of the two beside it, which are called by its number: an
+    // index of a type of its own would have to be made from one at each turn.
     fn head_of(&self, k: usize) -> usize
         requires within { k < size (shown self.now) }
         ensures { result ≡ head (up (shown self.now)) (cut (shown self.now)) k }

@@ -37,6 +37,7 @@ impl View<'_> {
         for (k, section) in self.sections.iter().enumerate() {
             let figures = &section.figures;
             let time = figures.repair.min(self.switching);
+            // `as`: it is proved to fit, so there is no error to pass on.
             sum = m.join(sum, m.effect(k as u16, figures, self.switching, time));
         }
         sum

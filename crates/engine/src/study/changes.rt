@@ -39,7 +39,8 @@ impl Study<'_> {
     }
 
     /// Sets rate, repair time (15 minutes for each quarter), customers and load of section `k`, and nothing else.
-    // Five numbers, as a line has them: a struct of four would be taken apart wherever it is made.
+    // Five numbers: the call has those of its line and of its entry in a log, one for one. The limits are not those of `archive`,
+    // which are as narrow as its fields, while any 32 bits may come here.
     pub fn set(
         &mut self,
         k: u32,
@@ -57,6 +58,7 @@ impl Study<'_> {
         }
         let at = self.index(k)?;
         let was = self.lent.list[at].figures;
+        // `as`: it is proved to fit, so there is no error to pass on.
         self.lent.list[at].figures = Figures {
             rate,
             repair: 15 * quarters as u16,

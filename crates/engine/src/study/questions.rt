@@ -33,6 +33,7 @@ impl Study<'_> {
     pub(super) fn index(&self, k: u32) -> Result<usize, Refusal>
         ensures { MatchResult result (λ at. (at ≡ k) × (k < self.now.count)) (λ e. missing (feeder_of self.now) k None ≡ Some e) }
     {
+        // `as`: std has no `usize::from(u32)`.
         let at = k as usize;
         if at >= self.count {
             return Err(Refusal::NoSection);
@@ -110,6 +111,7 @@ impl Study<'_> {
         ensures answer { WorstOf (M.Measure.meaning m.now) (M.Weighed.number m.now) (feeder_of self.now) result }
         ensures alike { Alike (WorstOf (M.Measure.meaning m.now) (M.Weighed.number m.now)) (feeder_of self.now) result }
     {
+        // `as`: it is proved to fit, so there is no error to pass on.
         Ok(self.view()?.worst(m) as u32)
     }
 

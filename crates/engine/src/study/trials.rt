@@ -1,7 +1,6 @@
 // Trials of one more switch.
-ghost use Rattle.std.specs.Prelude.{◌≡◌, ℕ, ◌+◌, ◌<◌, ◌≤◌, true, false, length, take, slice_index_or, slice_set};
+ghost use Rattle.std.specs.Prelude.{◌≡◌, ◌<◌, false, length, take, slice_index_or, slice_set};
 ghost use Rattle.feeder.specs.Feeder.{blank, fitted};
-ghost use Rattle.feeder.specs.Checked.{AllFine};
 ghost use Rattle.feeder.specs.Totals.{total};
 ghost use Rattle.sweeps.specs.Lists.{feeder};
 ghost use Rattle.sweeps.specs.Weights.{weight_of};

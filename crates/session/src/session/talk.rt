@@ -62,6 +62,7 @@ impl Session {
         if out.len() < ROOM {
             return Err(Refusal::Short);
         }
+        // A `match`: `map_or` would take the study and the list into a closure.
         match self.lines.finish() {
             Some(input) => Ok(reply(study, &input, out, 0)),
             None => Ok(0),
