@@ -56,7 +56,8 @@ const FORBIDDEN: u8 = 0b1000_0000;
 // Section 0 has no parent and no switch either.
 const FORBIDDEN_AT_ROOT: u8 = 0b1010_0001;
 
-// The map byte, with no bit that must not stand. It is read before there is a `Mapped` to read from.
+// The map byte, with no bit that must not stand. It takes what the public `read_record` takes: before there is a map there is no
+// `Mapped`, and a struct of these three would be made for two private functions.
 fn read_map(bytes: &[u8], at: usize, number: u16) -> Result<u8, RecordFault>
     ensures { MatchResult result (λ m. MapRead bytes.now at number m) (λ f. MapRefused bytes.now at number f) }
 {

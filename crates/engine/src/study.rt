@@ -18,7 +18,7 @@ struct Lent<'a> {
 
 /// One feeder under study, kept in a section list that the caller lends.
 ///
-/// Before a load is accepted there are no sections, and every other call answers `NoSection`.
+/// Before a load is accepted there are no sections, and every other call answers `NoSection`, if nothing that is judged before refuses it.
 // No `Option` of what is loaded: a study without sections has a count of 0, and each call refuses by that alone.
 // What a call leaves alone is said of each call, as `rest`: a model of the study would have to say the same there.
 #[derive(Drop)]

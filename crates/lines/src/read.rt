@@ -78,7 +78,7 @@ fn line_of(letter: u8, number: u32) -> Option<Line>
 }
 
 /// The line that the bytes are the text of; the line feed that ends it is not among them.
-// A function and no `TryFrom`: the clause `one` speaks of all texts, and a trait's contract has no place for it.
+// A function and no `TryFrom`: its clauses stand at its head, where a conversion would have them in a relation beside the trait.
 pub fn read_line(text: &[u8]) -> Option<Line>
     ensures reads { Reads text.now result }
     ensures one { OneText text.now result }

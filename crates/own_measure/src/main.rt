@@ -12,7 +12,7 @@ use sweeps::By;
 
 fn main(rt: HostRuntime) -> anyhow::Result<()> {
     let archive = fs::read(&rt, "feeder.arc")?;
-    // An array, since a study fills a list that it is lent.
+    // An array, in fixed memory: a study fills the list that it is lent and asks for no more.
     let mut list = [Section::BLANK; MOST_SECTIONS];
     let mut study = Study::open(&mut list);
     if study.load(&archive).is_err() {
@@ -28,6 +28,7 @@ fn questions(rt: &HostRuntime, study: &Study) -> anyhow::Result<()> {
     if let Ok(total) = study.total(&m, 2) {
         println!(rt; "total of node 2: {}", total.value)?;
     }
+    // An array, in fixed memory: the call writes to the list that it is lent.
     let mut values = [m.nothing(); 4];
     if study.totals(&m, &mut values).is_ok() {
         print_all(rt, "totals", &values)?;
@@ -52,6 +53,7 @@ fn trials(rt: &HostRuntime, study: &mut Study) -> anyhow::Result<()> {
     if let Ok((flow, load, product)) = study.short_trial(&m, 1) {
         println!(rt; "short trial of 1: {flow} {load} {product}")?;
     }
+    // An array, in fixed memory: the call writes to the list that it is lent.
     let mut values = [m.nothing(); 4];
     if study.full_trial(&m, 1, &mut values).is_ok() {
         print_all(rt, "full trial of 1", &values)?;

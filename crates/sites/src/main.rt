@@ -11,7 +11,7 @@ use std::fs;
 
 fn main(rt: HostRuntime) -> anyhow::Result<()> {
     let archive = fs::read(&rt, "feeder.arc")?;
-    // Arrays, since a study fills a list that it is lent.
+    // Arrays, in fixed memory: a study fills the list that it is lent and asks for no more.
     let mut north_list = [Section::BLANK; MOST_SECTIONS];
     let mut south_list = [Section::BLANK; 8];
     let Ok(north) = Site::open(&rt, "north", &mut north_list, &archive) else {

@@ -20,7 +20,7 @@ const BLOCK: usize = 16_384;
 
 fn main(rt: HostRuntime) -> io::Result<()> {
     let archive = read_archive(&rt)?;
-    // An array, since a study fills a list that it is lent.
+    // An array, in fixed memory: a study fills the list that it is lent and asks for no more.
     let mut list = [Section::BLANK; MOST_SECTIONS];
     let mut study = Study::open(&mut list);
     match study.load(&archive) {
@@ -53,7 +53,7 @@ fn tell(rt: &HostRuntime, fault: &LoadFault) -> io::Result<()> {
 fn answer_all(rt: &HostRuntime, study: &mut Study) -> io::Result<()> {
     let mut session = Session::new();
     for _ in 0..u64::MAX {
-        // Likewise.
+        // An array with a count: memory does not grow with what is read.
         let mut block = [0u8; BLOCK];
         let n = rt.stdin().read(&mut block)?;
         if n == 0 {
@@ -61,7 +61,7 @@ fn answer_all(rt: &HostRuntime, study: &mut Study) -> io::Result<()> {
         }
         answer_block(rt, study, &mut session, block.split_at(n).0)?;
     }
-    // Likewise.
+    // An array with a count: memory does not grow with what is read.
     let mut out = [0u8; ROOM];
     let answered = session.finish(study, &mut out);
     write_front(rt, &out, answered)
