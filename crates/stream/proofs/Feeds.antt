@@ -2,7 +2,7 @@
 use Rattle.std.proofs.Common.{◌≡◌, ◌≢◌, ℕ, List, [], ◌∷◌, ◌++◌, Result, sym, refl, ap, ◌∙◌, subst, arith}
 use Rattle.std.specs.List.{AllByRecursion}
 use Rattle.std.proofs.lemmas.List.{append_assoc}
-use Rattle.std.proofs.ByRecursion.{All-push}
+use Rattle.std.proofs.ByRecursion.{All-append, All-push}
 use Rattle.stream.specs.declared.text.Text.{Text}
 use Rattle.stream.specs.declared.text.TooLong.{TooLong}
 use Rattle.stream.specs.declared.lines.Lines.{Lines}
@@ -11,10 +11,6 @@ use Rattle.stream.specs.Streams.{Plain, stream, Delivers, DeliversAll, Holds, Fe
 stream_more : (ls : List (List ℕ)) (p xs : List ℕ) → stream ls (p ++ xs) ≡ stream ls p ++ xs
 stream_more [] p xs = refl
 stream_more (l ∷ ls) p xs = ap (λ (x : List ℕ). l ++ (10 ∷ x)) (stream_more ls p xs) ∙ sym (append_assoc l (10 ∷ stream ls p) xs)
-
-plain_more : (p xs : List ℕ) → Plain p → Plain xs → Plain (p ++ xs)
-plain_more [] xs h k = k
-plain_more (b ∷ p) xs h k = (h.0, plain_more p xs h.1 k)
 
 stream_line : (ls : List (List ℕ)) (p : List ℕ) → stream (ls ++ (p ∷ [])) [] ≡ stream ls p ++ (10 ∷ [])
 stream_line [] p = refl
@@ -43,7 +39,7 @@ fed_more bs ds s t xs f plain taken = record {
   part = f.part ++ xs;
   whole = ap (λ (x : List ℕ). x ++ xs) f.whole ∙ sym (stream_more f.lines f.part xs);
   plain = f.plain;
-  plain_part = plain_more f.part xs f.plain_part plain;
+  plain_part = All-append (λ b. b ≢ 10) f.part xs f.plain_part plain;
   gave = f.gave;
   kept = taken f.part f.kept;
 }
