@@ -60,7 +60,7 @@ impl Mapped<'_> {
         if !self.has(PARENT) {
             return Ok((self.number.saturating_sub(1), at));
         }
-        let value = u16::from_be_bytes(bytes_at(self.bytes, at)?);
+        let value = u16::from_be_bytes(*bytes_at(self.bytes, at)?);
         if value >= self.number {
             return Err(RecordFault::Parent { at });
         }
@@ -73,7 +73,7 @@ impl Mapped<'_> {
         if !self.has(RATE) {
             return Ok((0, at));
         }
-        let value = u32::from_be_bytes(bytes_at(self.bytes, at)?);
+        let value = u32::from_be_bytes(*bytes_at(self.bytes, at)?);
         if value > MOST_RATE {
             return Err(RecordFault::Figure { at });
         }
@@ -87,7 +87,7 @@ impl Mapped<'_> {
         if !self.has(HOURS) {
             return Ok((2.0, at));
         }
-        let value = f64_from_bits_with_nan(u64::from_be_bytes(bytes_at(self.bytes, at)?));
+        let value = f64_from_bits_with_nan(u64::from_be_bytes(*bytes_at(self.bytes, at)?));
         if minutes(value).is_none() {
             return Err(RecordFault::Figure { at });
         }
@@ -102,7 +102,7 @@ impl Mapped<'_> {
         if !self.has(bit) {
             return Ok((0, at));
         }
-        let value = u16::from_be_bytes(bytes_at(self.bytes, at)?);
+        let value = u16::from_be_bytes(*bytes_at(self.bytes, at)?);
         if value > limit {
             return Err(RecordFault::Figure { at });
         }

@@ -19,11 +19,11 @@ const MOST_SWITCHING: u16 = 1440;
 fn read_header(bytes: &[u8], room: usize) -> Result<(usize, u16), LoadFault>
     ensures { MatchResult result (λ t. (t.0 ≡ be2 bytes.now 0) × (t.1 ≡ be2 bytes.now 2) × All (checks bytes.now room)) (λ f. First (checks bytes.now room) f) }
 {
-    let count = usize::from(u16::from_be_bytes(bytes_at(bytes, 0)?));
+    let count = usize::from(u16::from_be_bytes(*bytes_at(bytes, 0)?));
     if count < 1 || count > MOST_SECTIONS {
         return Err(LoadFault::Range { at: 0 });
     }
-    let switching = u16::from_be_bytes(bytes_at(bytes, 2)?);
+    let switching = u16::from_be_bytes(*bytes_at(bytes, 2)?);
     if switching < 1 || switching > MOST_SWITCHING {
         return Err(LoadFault::Range { at: 2 });
     }

@@ -27,7 +27,7 @@ impl Mapped<'_> {
         if !self.has(NAME) {
             return Ok((Name::EMPTY, at));
         }
-        let [len] = bytes_at::<1>(self.bytes, at)?;
+        let [len] = *bytes_at::<1>(self.bytes, at)?;
         if len < 1 || len > LONGEST {
             return Err(RecordFault::Name { at });
         }

@@ -61,7 +61,7 @@ const FORBIDDEN_AT_ROOT: u8 = 0b1010_0001;
 fn read_map(bytes: &[u8], at: usize, number: u16) -> Result<u8, RecordFault>
     ensures { MatchResult result (λ m. MapRead bytes.now at number m) (λ f. MapRefused bytes.now at number f) }
 {
-    let [map] = bytes_at::<1>(bytes, at)?;
+    let [map] = *bytes_at::<1>(bytes, at)?;
     let wrong = if number == 0 {
         FORBIDDEN_AT_ROOT
     } else {

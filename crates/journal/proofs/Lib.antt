@@ -1,3 +1,3 @@
 mod Tests
-mod Filtered
+mod Places
 pub mod Whole

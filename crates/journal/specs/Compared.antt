@@ -1,5 +1,5 @@
 -- Two recorded lists of changes compared. Assumes nothing.
-use Rattle.std.specs.Prelude.{◌≡◌, ℕ, ◌<◌, Bool, true, false, ◌&&◌, List, [], ◌∷◌, length, ◌==◌, slice_index_or}
+use Rattle.std.specs.Prelude.{◌≡◌, ℕ, ◌<◌, ◌≤◌, Bool, true, false, ◌&&◌, List, [], ◌∷◌, length, drop, ◌==◌, slice_index_or}
 use Rattle.feeder.specs.Feeder.{Feeder}
 use Rattle.lines.specs.declared.change.Change.{Change}
 use Rattle.lines.specs.declared.change.Change.TheVariants.{Fit, Unfit, Set}
@@ -39,6 +39,13 @@ listb (p ∷ ps) (q ∷ qs) = put_eqb p q && listb ps qs
 -- what a list has past its end
 abbrev pub no_put : Put
 no_put = direct (Fit 0)
+
+-- r is the first place from i on whose change names k, or the end
+pub record Next (k : ℕ) (ps : List Put) (i r : ℕ) : Type 0 where
+  pub from : i ≤ r
+  pub to : r ≤ length ps
+  pub rest : naming k (drop i ps) ≡ naming k (drop r ps)
+  pub here : r < length ps → named (slice_index_or ps r no_put).change ≡ k
 
 -- the lists ps and qs agree at each section that ks names, or they do not at some section
 pub record Covers (ks ps qs : List Put) (r : Bool) : Type 0 where

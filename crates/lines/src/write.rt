@@ -38,9 +38,12 @@ impl Pen<'_> {
         requires { self.old.at + length (decimal n) ≤ length self.old.out.now }
         ensures { Wrote self.old (decimal n) self.new }
     {
-        // A buffer for one digit, as a refused line has it, costs more than the digit: 4 ns against 1.7. The `as` is proved to fit.
+        // A buffer for one digit or two, as a refused line has them, costs more than the digits: 4 ns against 1.7. Each `as` is proved to fit.
         if n < 10 {
             self.byte(b'0' + n as u8);
+        } else if n < 100 {
+            self.byte(b'0' + (n / 10) as u8);
+            self.byte(b'0' + (n % 10) as u8);
         } else {
             self.text(itoa::Buffer::new().format(n).as_bytes());
         }

@@ -2,7 +2,7 @@
 ghost use Rattle.std.specs.Prelude.{◌≡◌};
 ghost use Rattle.measures.specs.Capped.{Amounts};
 ghost use Rattle.measures.specs.Additive.{Additive as IsAdditive, sums};
-ghost use Rattle.measures.specs.Caps.{by_sums, sums_weigh};
+ghost use Rattle.measures.specs.Caps.{amounts_lawful, amounts_weigh};
 
 use crate::capped::Capped;
 use crate::measure::Measure;
@@ -31,7 +31,7 @@ impl<A: Additive> Measure for A {
 
     ghost meaning = { λ x. sums (A.amounts x) };
 
-    ghost lawful = { λ x. by_sums (A.amounts x) (A.additive x).parts };
+    ghost lawful = { λ x. amounts_lawful (A.amounts x) (A.additive x).parts };
 
     fn nothing(&self) -> Capped {
         Capped::from(0)
@@ -53,7 +53,7 @@ impl<A: Additive> Measure for A {
 impl<A: Additive> Weighed for A {
     ghost number = { λ _ v. v.value };
 
-    ghost weighs = { λ x. sums_weigh (A.amounts x) (A.additive x).most };
+    ghost weighs = { λ x. amounts_weigh (A.amounts x) (A.additive x).most };
 
     fn number(&self, v: Capped) -> u64 {
         v.value

@@ -1,5 +1,8 @@
 // Count: how many interruptions a node has, in thousandths a year.
-ghost use Rattle.measures.specs.Capped.{count_amounts};
+ghost use Rattle.std.specs.Prelude.{◌≡◌};
+ghost use Rattle.feeder.specs.Measure.{Lawful};
+ghost use Rattle.feeder.specs.Weighed.{Weighs};
+ghost use Rattle.measures.specs.Capped.{cap, count, count_amounts};
 ghost use Rattle.measures.specs.Caps.{count_additive};
 
 use crate::additive::Additive;
@@ -14,11 +17,19 @@ impl Additive for Count {
 
     ghost additive = { λ _. count_additive };
 
-    fn amount(&self, _k: u16, figures: &Figures, _s: u16, _time: u16) -> u64 {
+    fn amount(&self, k: u16, figures: &Figures, s: u16, time: u16) -> u64
+        ensures value { result ≡ count_amounts.amount k figures.now s time }
+        ensures effect { cap result ≡ count.effect k figures.now s time }
+        ensures lawful { Lawful count }
+        ensures weighs { Weighs count (λ v. v.value) }
+    {
         u64::from(figures.rate)
     }
 
-    fn excess(&self, _k: u16, _figures: &Figures, _s: u16) -> u64 {
+    fn excess(&self, k: u16, figures: &Figures, s: u16) -> u64
+        ensures value { result ≡ count_amounts.excess k figures.now s }
+        ensures extra { cap result ≡ count.extra k figures.now s }
+    {
         0
     }
 }

@@ -1,5 +1,8 @@
 // Minutes: how long a node is without supply, in thousandths of a minute a year.
-ghost use Rattle.measures.specs.Capped.{minutes_amounts};
+ghost use Rattle.std.specs.Prelude.{◌≡◌};
+ghost use Rattle.feeder.specs.Measure.{Lawful};
+ghost use Rattle.feeder.specs.Weighed.{Weighs};
+ghost use Rattle.measures.specs.Capped.{cap, minutes, minutes_amounts};
 ghost use Rattle.measures.specs.Caps.{minutes_additive};
 
 use crate::additive::Additive;
@@ -14,11 +17,19 @@ impl Additive for Minutes {
 
     ghost additive = { λ _. minutes_additive };
 
-    fn amount(&self, _k: u16, figures: &Figures, _s: u16, time: u16) -> u64 {
+    fn amount(&self, k: u16, figures: &Figures, s: u16, time: u16) -> u64
+        ensures value { result ≡ minutes_amounts.amount k figures.now s time }
+        ensures effect { cap result ≡ minutes.effect k figures.now s time }
+        ensures lawful { Lawful minutes }
+        ensures weighs { Weighs minutes (λ v. v.value) }
+    {
         u64::from(figures.rate) * u64::from(time)
     }
 
-    fn excess(&self, _k: u16, figures: &Figures, s: u16) -> u64 {
+    fn excess(&self, k: u16, figures: &Figures, s: u16) -> u64
+        ensures value { result ≡ minutes_amounts.excess k figures.now s }
+        ensures extra { cap result ≡ minutes.extra k figures.now s }
+    {
         let near = u64::from(figures.rate) * u64::from(figures.repair);
         let far = u64::from(figures.rate) * u64::from(figures.repair.min(s));
         near - far

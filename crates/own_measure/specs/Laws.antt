@@ -19,7 +19,7 @@ pub prolonged_additive : Additive prolonged_amounts
 prolonged_additive = record { parts = λ k d s r. far_none d.rate d.repair s; most = λ k d s t r l. most d.rate s t r.rate }
 
 pub prolonged_lawful : Lawful prolonged
-prolonged_lawful = by_sums prolonged_amounts prolonged_additive.parts
+prolonged_lawful = by_sums prolonged_amounts.amount prolonged_amounts.excess prolonged_additive.parts
 
 pub prolonged_weighs : Weighs prolonged (λ v. v.value)
-prolonged_weighs = sums_weigh prolonged_amounts prolonged_additive.most
+prolonged_weighs = sums_weigh prolonged_amounts.amount prolonged_amounts.excess prolonged_additive.most

@@ -22,16 +22,20 @@ delivers_append [] ms (d ∷ ds) es h k = absurd h
 delivers_append (l ∷ ls) ms [] es h k = absurd h
 delivers_append (l ∷ ls) ms (d ∷ ds) es (a, h) k = (a, delivers_append ls ms ds es h k)
 
-pub fed_line : (bs : List ℕ) (ds : List (Result Text TooLong)) (s t : Lines) (d : Result Text TooLong) → Fed bs ds s → ((part : List ℕ) → Holds s part → Delivers part d) → Holds t [] → Fed (bs ++ (10 ∷ [])) (ds ++ (d ∷ [])) t
-fed_line bs ds s t d f given none = record {
-  lines = f.lines ++ (f.part ∷ []);
-  part = [];
-  whole = ap (λ (x : List ℕ). x ++ (10 ∷ [])) f.whole ∙ sym (stream_line f.lines f.part);
-  plain = All-push Plain f.lines f.part f.plain f.plain_part;
-  plain_part = tt;
-  gave = delivers_append f.lines (f.part ∷ []) ds (d ∷ []) f.gave (given f.part f.kept, tt);
-  kept = none;
-}
+-- the bytes xs and a line feed
+pub fed_line : (bs : List ℕ) (ds : List (Result Text TooLong)) (s t : Lines) (xs : List ℕ) (d : Result Text TooLong) → Fed bs ds s → Plain xs → ((part : List ℕ) → Holds s part → Delivers (part ++ xs) d) → Holds t []
+    → Fed ((bs ++ xs) ++ (10 ∷ [])) (ds ++ (d ∷ [])) t
+fed_line bs ds s t xs d f plain given none =
+    let l = f.part ++ xs in
+    record {
+      lines = f.lines ++ (l ∷ []);
+      part = [];
+      whole = ap (λ (x : List ℕ). (x ++ xs) ++ (10 ∷ [])) f.whole ∙ ap (λ (x : List ℕ). x ++ (10 ∷ [])) (sym (stream_more f.lines f.part xs)) ∙ sym (stream_line f.lines l);
+      plain = All-push Plain f.lines l f.plain (All-append (λ b. b ≢ 10) f.part xs f.plain_part plain);
+      plain_part = tt;
+      gave = delivers_append f.lines (l ∷ []) ds (d ∷ []) f.gave (given f.part f.kept, tt);
+      kept = none;
+    }
 
 pub fed_more : (bs : List ℕ) (ds : List (Result Text TooLong)) (s t : Lines) (xs : List ℕ) → Fed bs ds s → Plain xs → ((part : List ℕ) → Holds s part → Holds t (part ++ xs)) → Fed (bs ++ xs) ds t
 fed_more bs ds s t xs f plain taken = record {

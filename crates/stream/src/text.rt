@@ -1,7 +1,7 @@
 ghost use Rattle.std.specs.Prelude.{◌≤◌};
 
 // The most bytes that a line may have.
-const ROOM: usize = 64;
+pub(crate) const ROOM: usize = 64;
 
 /// The bytes of a line, at most 64.
 // A buffer with its length: a Vec would be on the heap, and an ArrayVec is not Copy, which this and a Lines are.
@@ -17,7 +17,7 @@ pub struct Text {
 pub struct TooLong;
 
 impl Text {
-    ghost use Rattle.std.specs.Prelude.{◌≡◌, ◌↔◌, [], IsTrue};
+    ghost use Rattle.std.specs.Prelude.{◌≡◌, ◌↔◌, [], take, IsTrue};
     ghost use Rattle.stream.specs.Streams.{held, Added};
 
     pub(crate) fn new() -> Text
@@ -26,6 +26,17 @@ impl Text {
         Text {
             bytes: [0; ROOM],
             count: 0,
+        }
+    }
+
+    // The first `count` bytes of a room. It is copied whole, since a copy whose length only the run knows is a call.
+    pub(crate) fn front(room: &[u8; ROOM], count: usize) -> Text
+        requires { count ≤ 64 }
+        ensures { held result ≡ take count room.now }
+    {
+        Text {
+            bytes: *room,
+            count,
         }
     }
 

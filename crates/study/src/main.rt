@@ -1,6 +1,8 @@
 // The program: moves bytes between the archive's file, the standard streams and a session.
 #![tactic(auto)]
 
+ghost use Rattle.std.specs.Prelude.{◌≤◌, length, IfOk};
+
 use archive::LoadFault;
 use console::fault_line;
 use engine::Study;
@@ -68,10 +70,12 @@ fn answer_all(rt: &HostRuntime, study: &mut Study) -> io::Result<()> {
 }
 
 // Writes out what a call has put to the front of its list.
-fn write_front(rt: &HostRuntime, out: &[u8], put: Result<usize, Refusal>) -> io::Result<()> {
-    match put.ok().and_then(|n| out.get(..n)) {
-        Some(front) => rt.stdout().write_all(front),
-        None => Ok(()),
+fn write_front(rt: &HostRuntime, out: &[u8], put: Result<usize, Refusal>) -> io::Result<()>
+    requires { IfOk put (λ n. n ≤ length out.now) }
+{
+    match put {
+        Ok(n) => rt.stdout().write_all(&out[..n]),
+        Err(_) => Ok(()),
     }
 }
 

@@ -34,7 +34,8 @@ impl View<'_> {
 
     /// The totals as numbers, each times its node's weight, added up.
     pub fn weighted<M: Weighed>(&self, m: &M, by: By) -> u64
-        ensures { result ≡ weighted_sum (M.Measure.meaning m.now) (M.Weighed.number m.now) (weight_of by) (shown self.now) }
+        ensures value { result ≡ weighted_sum (M.Measure.meaning m.now) (M.Weighed.number m.now) (weight_of by) (shown self.now) }
+        ensures small { result ≤ 2 ^ 63 }
     {
         // A table for the most sections, since nothing is allocated.
         let mut totals = [m.nothing(); MOST_SECTIONS];

@@ -1,5 +1,5 @@
-use Rattle.measures.specs.Caps.{sums_weigh}
+use Rattle.measures.specs.Caps.{amounts_weigh}
 use Rattle.measures.proofs.additive.AnyWeighed.number.Goals as goal
 
 pub returns-clause-tied : goal.returns-clause-tied
-returns-clause-tied g c = sums_weigh (g.A.Additive.amounts c.args.self.now) (g.met.A.Additive.additive c.args.self.now).most
+returns-clause-tied g c = amounts_weigh (g.A.Additive.amounts c.args.self.now) (g.met.A.Additive.additive c.args.self.now).most
