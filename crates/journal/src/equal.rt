@@ -1,4 +1,5 @@
 // When two changes are the same: by call, kind and numbers.
+// By functions with contracts of their own, and not by the derived `==`, which stands in other crates: what is compared here can be turned here.
 ghost use Rattle.std.specs.Prelude.{◌≡◌};
 ghost use Rattle.journal.specs.Compared.{call_eqb, change_eqb, put_eqb};
 
